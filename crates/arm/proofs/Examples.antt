@@ -1,0 +1,136 @@
+-- Worked values of Arm's definitions, each table one computed test: words that GNU as gave for the instruction beside them, and document 01's
+-- examples. Assumes nothing.
+use mathlib.Core.Path.{refl}
+use mathlib.Core.Bool.{Bool, true, _&&_}
+use mathlib.Core.List.{List, [], _∷_}
+use mathlib.Core.Option.{Option, none, some}
+use Prim.Native.Nat.{ℕ, _+_, _-_, _^_}
+use native.Mathlib.Omega.{arith}
+use lib.Dec.{T, eqb}
+use Rattle.arm.specs.Bits.{Replicate}
+use Rattle.arm.specs.BitMasks.{highestSetBit, len, esize, Legal, wmask}
+use Rattle.arm.specs.MoveWide.{decode, Regs, exec, run}
+use Rattle.arm.specs.Displacements.{B, Bcond, TBZ, ADR, ADRP, LDR}
+use Rattle.arm.specs.Immediates.{VFPExpandImm}
+
+-- each left side is its right side
+abbrev pub allEqual : List (ℕ × ℕ) → Bool
+allEqual [] = true
+allEqual ((a, b) ∷ ps) = eqb a b && allEqual ps
+
+-- ---- DecodeBitMasks: the immediates of AND
+
+pub masks :
+    T (allEqual
+    ((wmask 64 1 7 0, 0xFF)
+    ∷ (wmask 64 0 60 0, 0x5555555555555555)
+    ∷ (wmask 64 0 60 1, 0xAAAAAAAAAAAAAAAA)
+    ∷ (wmask 64 0 60 5, 0xAAAAAAAAAAAAAAAA)
+    ∷ (wmask 64 1 1 1, 0x8000000000000001)
+    ∷ (wmask 64 0 39 12, 0x0FF00FF00FF00FF0)
+    ∷ (wmask 64 0 50 3, 0xE0E0E0E0E0E0E0E0)
+    ∷ (wmask 64 1 62 63, 0xFFFFFFFFFFFFFFFE)
+    ∷ (wmask 64 0 15 24, 0x00FFFF0000FFFF00)
+    ∷ (wmask 64 0 56 0, 0x1111111111111111)
+    ∷ (wmask 64 0 58 0, 0x7777777777777777)
+    ∷ (wmask 32 0 7 0, 0xFF)
+    ∷ (wmask 32 0 1 1, 0x80000001)
+    ∷ (wmask 32 0 30 0, 0x7FFFFFFF)
+    ∷ (wmask 32 0 23 12, 0xFFF00FFF)
+    ∷ []))
+unfolding wmask esize len highestSetBit Replicate
+masks = tt
+
+-- what Arm leaves undefined: no length; S all ones, at the longest and the shortest element; N = 1 at width 32
+module _ (w r : ℕ) where
+  pub no-length : Legal w 0 62 r → ⊥
+  unfolding len highestSetBit
+  no-length h = omega (arith, h .some-len)
+
+  pub all-ones : Legal w 1 63 r → ⊥
+  unfolding esize len highestSetBit
+  all-ones h = omega (arith, h .not-all)
+
+  pub all-ones-of-two : Legal w 0 61 r → ⊥
+  unfolding esize len highestSetBit
+  all-ones-of-two h = omega (arith, h .not-all)
+
+  pub wide-at-32 : (s : ℕ) → Legal 32 1 s r → ⊥
+  wide-at-32 s h = omega (arith, h .narrow refl)
+
+-- ---- MOVN, MOVZ, MOVK, from registers that hold 1111222233334444 and their own number
+
+abbrev old : Regs
+old k = 0x1111222233334444 + k
+
+-- what register k holds afterwards; 2 ^ 64, which no register can hold, where the run is undefined
+abbrev content : Option Regs → ℕ → ℕ
+content none k = 2 ^ 64
+content (some R) k = R k
+
+abbrev after : List ℕ → ℕ → ℕ
+after ws k = content (run ws old) k
+
+pub moves :
+    T (allEqual
+    ((after (0x92800003 ∷ []) 3, 0xFFFFFFFFFFFFFFFF)  -- movn x3, #0
+    ∷ (after (0x92800003 ∷ []) 4, 0x1111222233334448)
+    ∷ (after (0xD28ACF00 ∷ 0xF2A24680 ∷ []) 0, 0x12345678)  -- movz x0, #0x5678; movk x0, #0x1234, lsl #16
+    ∷ (after (0x12800021 ∷ []) 1, 0xFFFFFFFE)  -- movn w1, #1
+    ∷ (after (0xD2E00020 ∷ []) 0, 0x1000000000000)  -- movz x0, #1, lsl #48
+    ∷ (after (0xF2D579A5 ∷ []) 5, 0x1111ABCD33334449)  -- movk x5, #0xabcd, lsl #32
+    ∷ (after (0x12A00002 ∷ []) 2, 0xFFFFFFFF)  -- movn w2, #0, lsl #16
+    ∷ (after (0x52BFFFE7 ∷ []) 7, 0xFFFF0000)  -- movz w7, #0xffff, lsl #16
+    ∷ (after (0x72824689 ∷ []) 9, 0x33331234)  -- movk w9, #0x1234: the upper half is cleared
+    ∷ (after (0x92E24684 ∷ []) 4, 0xEDCBFFFFFFFFFFFF)  -- movn x4, #0x1234, lsl #48
+    ∷ (after (0xD28000BF ∷ []) 30, 0x1111222233334462)  -- movz xzr, #5: nothing is written
+    ∷ (after (0xD28000BF ∷ []) 31, 0x1111222233334463)
+    ∷ (after (0xD503201F ∷ []) 0, 2 ^ 64)  -- nop is no wide move
+    ∷ (after (0x52C00000 ∷ []) 0, 2 ^ 64)  -- hw = 2 at 32 bits
+    ∷ (after (0xB2800000 ∷ []) 0, 2 ^ 64)  -- opc = 01
+    ∷ []))
+unfolding run decode exec
+moves = tt
+
+-- ---- displacements
+
+pub displacements :
+    T (allEqual
+    ((B 0x17FFFFFF, 2 ^ 64 - 4)  -- b .-4
+    ∷ (B 0x15FFFFFF, 134217724)  -- b .+134217724
+    ∷ (B 0x16000000, 2 ^ 64 - 134217728)  -- b .-134217728
+    ∷ (B 0x94000002, 8)  -- bl .+8
+    ∷ (Bcond 0x547FFFE0, 1048572)  -- b.eq .+1048572
+    ∷ (Bcond 0x54800001, 2 ^ 64 - 1048576)  -- b.ne .-1048576
+    ∷ (Bcond 0xB4000023, 4)  -- cbz x3, .+4
+    ∷ (TBZ 0x361BFFE1, 32764)  -- tbz w1, #3, .+32764
+    ∷ (TBZ 0xB71C0001, 2 ^ 64 - 32768)  -- tbnz x1, #35, .-32768
+    ∷ (ADR 0x30000020, 5)  -- adr x0, .+5
+    ∷ (ADR 0x10800001, 2 ^ 64 - 1048576)  -- adr x1, .-1048576
+    ∷ (ADR 0x707FFFE2, 1048575)  -- adr x2, .+1048575
+    ∷ (ADRP 0xB0000000, 4096)  -- adrp x0, the next page
+    ∷ (ADRP 0x90800000, 2 ^ 64 - 4294967296)  -- the least page
+    ∷ (LDR 0x58000040, 8)  -- ldr x0, .+8
+    ∷ (LDR 0x18800005, 2 ^ 64 - 1048576)  -- ldr w5, .-1048576
+    ∷ []))
+displacements = tt
+
+-- ---- VFPExpandImm: the immediates of FMOV
+
+pub floats :
+    T (allEqual
+    ((VFPExpandImm 16 112, 0x3C00)  -- 1.0
+    ∷ (VFPExpandImm 16 191, 0xCFC0)  -- -31.0
+    ∷ (VFPExpandImm 16 64, 0x3000)  -- 0.125
+    ∷ (VFPExpandImm 32 112, 0x3F800000)  -- 1.0
+    ∷ (VFPExpandImm 32 0, 0x40000000)  -- 2.0
+    ∷ (VFPExpandImm 32 224, 0xBF000000)  -- -0.5
+    ∷ (VFPExpandImm 32 63, 0x41F80000)  -- 31.0
+    ∷ (VFPExpandImm 64 112, 0x3FF0000000000000)  -- 1.0
+    ∷ (VFPExpandImm 64 191, 0xC03F000000000000)  -- -31.0
+    ∷ (VFPExpandImm 64 64, 0x3FC0000000000000)  -- 0.125
+    ∷ (VFPExpandImm 64 12, 0x400C000000000000)  -- 3.5
+    ∷ (VFPExpandImm 64 128, 0xC000000000000000)  -- -2.0
+    ∷ []))
+unfolding VFPExpandImm Replicate
+floats = tt

@@ -1,0 +1,6 @@
+-- What a reader must believe: Arm's definitions, from the Arm Architecture Reference Manual for A-profile, A64.
+pub mod Bits
+pub mod BitMasks
+pub mod MoveWide
+pub mod Displacements
+pub mod Immediates

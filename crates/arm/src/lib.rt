@@ -1,0 +1,1 @@
+// Arm's definitions (specs/) and the laws about them (proofs/). No machine code of its own.

@@ -1,0 +1,10 @@
+-- `words::store` meets its contract. Assumes nothing.
+use borrow.Author.Needs.{needs}
+use Rattle.words.proofs.store.Statement.{statement}
+use Rattle.words.proofs.store.Tie as tie
+
+returns : tie.Need-returns
+returns c = rw (c .least .ensures)
+
+pub store-spec : {M : Type 1} → statement M
+store-spec = tie.close (tie.spec (search needs) (search needs) (search needs) (search needs) (search needs) returns)

@@ -1,0 +1,43 @@
+-- Up to four words by value, and what writing them into a lent run says and leaves. Assumes nothing.
+use mathlib.Core.Bool.{cond}
+use mathlib.Core.List.{List, [], _∷_, _++_}
+use Prim.Native.Nat.{ℕ, _+_, _*_, _/_, _%_}
+use lib.Dec.{leb}
+use lib.ListN.{length, take, getD}
+use lib.Seq.{sets}
+use Rattle.words.specs.Said.{Said, ok, no}
+use Rattle.words.specs.declared.Words.{Words}
+
+-- the words of a value: the first ones, as many as the count says
+abbrev pub listOf : Words → List ℕ
+listOf f = take (f .count) (f .a ∷ f .b ∷ f .c ∷ f .d ∷ [])
+
+-- the value of at most four words; the numbers that are not used are 0
+abbrev pub wordsOf : List ℕ → Words
+wordsOf ws = record { count = length ws; a = getD ws 0 0; b = getD ws 1 0; c = getD ws 2 0; d = getD ws 3 0 }
+
+abbrev pub listed : Said Words → Said (List ℕ)
+listed (ok f) = ok (listOf f)
+listed (no n) = no n
+
+abbrev pub packed : Said (List ℕ) → Said Words
+packed (ok ws) = ok (wordsOf ws)
+packed (no n) = no n
+
+-- what is said, and the run as it then is: all words from the position on, and the position after them; or 8, and the run as it was
+unfoldable pub putOf : List ℕ → ℕ → Said (List ℕ) → Said ℕ × List ℕ
+putOf ws at (ok vs) = cond (leb (at + length vs) (length ws)) (ok (at + length vs), sets ws at vs) (no 8, ws)
+putOf ws at (no n) = (no n, ws)
+
+-- "a word is four bytes, low byte first"
+abbrev pub bytesOf : ℕ → List ℕ
+bytesOf w = w % 256 ∷ w / 256 % 256 ∷ w / 65536 % 256 ∷ w / 16777216 ∷ []
+
+abbrev pub allBytes : List ℕ → List ℕ
+allBytes [] = []
+allBytes (w ∷ ws) = bytesOf w ++ allBytes ws
+
+-- the same in a run of bytes, the position counting words; "a tail under four is no room"
+unfoldable pub putBytesOf : List ℕ → ℕ → Said (List ℕ) → Said ℕ × List ℕ
+putBytesOf bs at (ok vs) = cond (leb (at + length vs) (length bs / 4)) (ok (at + length vs), sets bs (at * 4) (allBytes vs)) (no 8, bs)
+putBytesOf bs at (no n) = (no n, bs)
