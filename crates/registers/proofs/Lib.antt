@@ -1,0 +1,3 @@
+-- The laws of registers.
+pub mod Determined
+pub mod Rule

@@ -1,0 +1,3 @@
+-- Document 01's module 2.
+pub mod Checks
+pub mod Shifts
