@@ -1,0 +1,95 @@
+//! Module 7: displacements.
+
+use super::{No, words};
+
+/// A row of the table of formats.
+pub struct Format {
+    pub step: i64,
+    pub least: i64,
+    pub greatest: i64,
+    /// The parts of the field from its low end on: how many bits, and where they stand.
+    pub field: &'static [(u32, u32)],
+}
+
+impl Format {
+    const fn new(step: i64, least: i64, greatest: i64, field: &'static [(u32, u32)]) -> Self {
+        Self { step, least, greatest, field }
+    }
+
+    fn bits(&self) -> u32 {
+        self.field.iter().map(|(bits, _)| bits).sum()
+    }
+
+    /// The field's number in a word.
+    pub fn read(&self, word: u32) -> u64 {
+        let mut below = 0;
+        let mut number = 0;
+        for (bits, at) in self.field {
+            number += (u64::from(word >> at) % (1 << bits)) << below;
+            below += bits;
+        }
+        number
+    }
+
+    /// The word with a number placed in its clear field.
+    fn place(&self, base: u32, number: u64) -> u32 {
+        let mut above = number;
+        let mut word = base;
+        for (bits, at) in self.field {
+            word += ((above % (1 << bits)) as u32) << at;
+            above >>= bits;
+        }
+        word
+    }
+}
+
+const BRANCH_19: Format = Format::new(4, -1048576, 1048572, &[(19, 5)]);
+
+pub const FORMATS: [Format; 6] = [
+    Format::new(4, -134217728, 134217724, &[(26, 0)]),
+    BRANCH_19,
+    Format::new(4, -32768, 32764, &[(14, 5)]),
+    Format::new(1, -1048576, 1048575, &[(2, 29), (19, 5)]),
+    Format::new(4096, -4294967296, 4294963200, &[(2, 29), (19, 5)]),
+    BRANCH_19,
+];
+
+/// Order 7, 6, 4, 5.
+pub fn disp_word(format: u32, base: u32, distance: i64) -> Result<u32, No> {
+    let format = FORMATS.get(format as usize).ok_or(No(7))?;
+    if format.read(base) != 0 {
+        return Err(No(6));
+    }
+    if distance % format.step != 0 {
+        return Err(No(4));
+    }
+    if distance < format.least || distance > format.greatest {
+        return Err(No(5));
+    }
+    Ok(format.place(base, (distance / format.step) as u64))
+}
+
+/// Order 7, 6, 4, 5, 8.
+pub fn emit_disp_imm(
+    run: &mut [u32],
+    position: u64,
+    format: u32,
+    base: u32,
+    distance: i64,
+) -> Result<u64, No> {
+    words::put(run, position, &[disp_word(format, base, distance)?])
+}
+
+/// Target minus address modulo 2^64, read as signed; for ADRP the address loses its low 12 bits.
+pub fn distance(format: u32, target: u64, address: u64) -> i64 {
+    let origin = if format == 4 { address - address % 4096 } else { address };
+    target.wrapping_sub(origin) as i64
+}
+
+/// The signed distance that a word spells. Refusal 7: no such format.
+pub fn read_disp(word: u32, format: u32) -> Result<i64, No> {
+    let format = FORMATS.get(format as usize).ok_or(No(7))?;
+    let (number, all) = (format.read(word) as i64, 1 << format.bits());
+    let signed = if number >= all / 2 { number - all } else { number };
+    Ok(signed * format.step)
+}

@@ -1,0 +1,14 @@
+//! A plain model of document 01, written from its text: one function for each entry, in the order
+//! of its sections. It shares nothing with the original.
+
+pub mod displacements;
+pub mod immediates;
+pub mod logical;
+pub mod moves;
+pub mod registers;
+pub mod simd;
+pub mod words;
+
+/// The number given when a request is turned down.
+#[derive(Clone, Copy, Debug, PartialEq, Eq)]
+pub struct No(pub u32);

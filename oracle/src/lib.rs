@@ -1,0 +1,15 @@
+//! asmkit's A64 encoder, compiled unchanged, beside a plain model of document 01.
+
+extern crate alloc;
+
+include!(concat!(env!("OUT_DIR"), "/original.rs"));
+
+#[allow(dead_code)]
+mod standins;
+
+pub mod document;
+pub mod lists;
+pub mod replay;
+pub mod rust;
+
+pub(crate) use standins::AsmError;

@@ -1,0 +1,145 @@
+//! Module 7, for each format. Distances: the limits and their neighbours by one and by one step, 0,
+//! 2,100 random ones in range and 500 outside, the ends of the signed numbers; bases with each
+//! single bit set; wrong formats and no room. Targets: the same edges around several addresses, and
+//! ones that wrap past 2^64. Reading: single bits and random words.
+
+use super::random::Random;
+use super::{List, U32, room};
+use crate::document::displacements::{FORMATS, Format};
+use crate::replay::request::{Request, entry::*};
+
+pub const LIST: List =
+    List { number: 7, entries: &[DISP_IMM, DISP_TARGET, READ_DISP], requests, any };
+
+/// Base words of each format: B and BL; B.cond, CBZ and CBNZ; TBZ and TBNZ; ADR; ADRP; LDR X, LDR W,
+/// LDRSW and LDR S.
+const BASES: [&[u64]; 6] = [
+    &[0x1400_0000, 0x9400_0000],
+    &[0x5400_0000, 0x3400_0005, 0xB500_001E],
+    &[0x3600_0000, 0xB7F8_0003],
+    &[0x1000_0000, 0x1000_001E],
+    &[0x9000_0000, 0x9000_0007],
+    &[0x5800_0000, 0x1800_0001, 0x9800_0002, 0x1C00_0003],
+];
+
+fn requests() -> Vec<Request> {
+    let mut random = Random::new(7);
+    let mut list = vec![];
+    for (number, format) in (0..).zip(&FORMATS) {
+        distances(&mut list, number, format, &mut random);
+        bases(&mut list, number, format);
+        targets(&mut list, number, format);
+        list.extend((0..32).map(|bit| Request::new(READ_DISP, &[1 << bit, number])));
+        list.extend([0, U32, 1 << 32].map(|word| Request::new(READ_DISP, &[word, number])));
+    }
+    list.extend((0..1000).map(|_| any(DISP_TARGET, &mut random)));
+    list.extend((0..500).map(|_| any(READ_DISP, &mut random)));
+    for number in [6, 7, U32] {
+        for base in [0, 0x1400_0000, U32] {
+            list.push(Request::new(DISP_IMM, &[number, base, 2, 0, 0]));
+            list.push(Request::new(DISP_TARGET, &[number, base, 2, 0, 0, 0]));
+            list.push(Request::new(READ_DISP, &[base, number]));
+        }
+    }
+    list
+}
+
+/// Distances at which an answer may turn.
+fn edges(format: &Format) -> Vec<i64> {
+    let mut edges = vec![i64::MIN, i64::MIN + 1, i64::MIN + 4096, i64::MAX, i64::MAX - 4095];
+    for limit in [format.least, 0, format.greatest] {
+        for near in [limit - format.step, limit, limit + format.step] {
+            edges.extend([near - 1, near, near + 1]);
+        }
+    }
+    edges
+}
+
+fn in_range(format: &Format, random: &mut Random) -> i64 {
+    let steps = (format.greatest - format.least) / format.step + 1;
+    format.least + format.step * random.below(steps as u64) as i64
+}
+
+/// A distance outside the range: far, or near the limits; on the step or not.
+fn outside(format: &Format, random: &mut Random) -> i64 {
+    loop {
+        let distance = match random.below(3) {
+            0 => random.value() as i64,
+            1 => (random.value() as i64 >> random.below(32)) / format.step * format.step,
+            _ => in_range(format, random) * 3,
+        };
+        if distance < format.least || distance > format.greatest {
+            return distance;
+        }
+    }
+}
+
+fn distances(list: &mut Vec<Request>, number: u64, format: &Format, random: &mut Random) {
+    let mut push = |distance: i64, base: u64| {
+        list.push(Request::new(DISP_IMM, &[number, base, distance as u64, 1, 0]));
+    };
+    for base in BASES[number as usize] {
+        edges(format).into_iter().for_each(|distance| push(distance, *base));
+    }
+    for _ in 0..2100 {
+        push(in_range(format, random), random.one_of(BASES[number as usize]));
+    }
+    for _ in 0..500 {
+        push(outside(format, random), random.one_of(BASES[number as usize]));
+    }
+}
+
+/// Each single bit set beside a base, at distances that are right, off the step and out of range;
+/// and runs without room.
+fn bases(list: &mut Vec<Request>, number: u64, format: &Format) {
+    let base = BASES[number as usize][0];
+    let far = format.greatest + format.step;
+    for distance in [0, format.step, 2, far, far + 1].map(|distance| distance as u64) {
+        for bit in 0..32 {
+            list.push(Request::new(DISP_IMM, &[number, base | 1 << bit, distance, 1, 0]));
+        }
+        for [len, position] in [[0, 0], [1, 1], [2, 1], [3, 4], [8, u64::MAX]] {
+            list.push(Request::new(DISP_IMM, &[number, base, distance, len, position]));
+            list.push(Request::new(DISP_TARGET, &[number, base, distance, 0, len, position]));
+        }
+    }
+}
+
+fn targets(list: &mut Vec<Request>, number: u64, format: &Format) {
+    let base = BASES[number as usize][0];
+    let addresses = [0, 4, 0x1000, 0x1FF8, 0x1FFC, 0x2003, U32 - 3, 1 << 32, 1 << 63, u64::MAX - 3];
+    for address in addresses {
+        let origin = if number == 4 { address - address % 4096 } else { address };
+        for distance in edges(format).into_iter().chain([8]) {
+            let target = origin.wrapping_add(distance as u64);
+            list.push(Request::new(DISP_TARGET, &[number, base, target, address, 1, 0]));
+        }
+    }
+}
+
+fn any(entry: u64, random: &mut Random) -> Request {
+    let number = random.below(6);
+    let format = &FORMATS[number as usize];
+    let distance = match random.below(8) {
+        0 => random.value() as i64,
+        1 => outside(format, random),
+        2 => random.one_of(&edges(format)),
+        _ => in_range(format, random),
+    };
+    let address = match random.below(8) {
+        0 => random.value(),
+        1 => random.number(),
+        _ => random.below(1 << 32) & !3,
+    };
+    let origin = if number == 4 { address - address % 4096 } else { address };
+    let target = origin.wrapping_add(distance as u64);
+    let base =
+        if random.below(8) == 0 { random.value() } else { random.one_of(BASES[number as usize]) };
+    let number = if random.below(32) == 0 { random.number() } else { number };
+    let [len, position] = room(random);
+    match entry {
+        DISP_IMM => Request::new(entry, &[number, base, distance as u64, len, position]),
+        DISP_TARGET => Request::new(entry, &[number, base, target, address, len, position]),
+        _ => Request::new(entry, &[random.value(), number]),
+    }
+}

@@ -1,0 +1,150 @@
+//! Document 01's examples, asked of its model and, where it has no departure, of the Rust.
+
+use oracle::document::No;
+use oracle::document::displacements::{disp_word, distance, read_disp};
+use oracle::document::immediates::{encode_byte_mask, encode_float, expand_float};
+use oracle::document::logical::{encode_logical_imm, masks, normalise};
+use oracle::document::moves::{move_words, patchable_words};
+use oracle::document::simd::{element_type_to_size_op, pick_fp_opcode};
+use oracle::rust;
+
+#[test]
+fn examples_1_to_6_logical_fields() {
+    let examples = [
+        (64, 0xFF, Ok([1, 7, 0])),
+        (32, 0x1_0000_00FF, Ok([0, 7, 0])),
+        (64, 0xAAAA_AAAA_AAAA_AAAA, Ok([0, 60, 1])),
+        (64, 0x8000_0000_0000_0001, Ok([1, 1, 1])),
+        (64, 5, Err(No(3))),
+        (32, 0xFFFF_FFFF, Err(No(3))),
+        (64, 0x5555_5555_5555_5555, Ok([0, 60, 0])),
+    ];
+    for (width, value, answer) in examples {
+        assert_eq!(encode_logical_imm(value, width), answer);
+        assert_eq!(rust::encode_logical_imm(value, width), Ok(answer.ok()));
+    }
+}
+
+#[test]
+fn example_7_normalises_at_both_widths() {
+    assert_eq!(normalise([0, 60, 5], 64), Ok([0, 60, 1]));
+    assert_eq!(normalise([0, 60, 5], 32), Ok([0, 60, 1]));
+}
+
+#[test]
+fn examples_8_to_10_moves() {
+    let spelled = [
+        (0x1234_5678, 0, vec![0xD28A_CF00, 0xF2A2_4680]),
+        (0x1_0000_0000_0000, 0, vec![0xD2E0_0020]),
+    ];
+    for (value, rd, words) in spelled {
+        assert_eq!(move_words(value, rd), Ok(words.clone()));
+        assert_eq!(rust::encode_mov_sequence64(value, rd, 1), words);
+    }
+    // The Rust's short MOVN has bit 31 set.
+    for (value, rd, word) in [(0xFFFF_FFFE, 1, 0x1280_0021), (0x1_FFFF, 0, 0x12BF_FFC0)] {
+        assert_eq!(move_words(value, rd), Ok(vec![word]));
+        assert_eq!(rust::encode_mov_sequence64(value, rd, 1), [word | 0x8000_0000]);
+    }
+}
+
+#[test]
+fn moves_of_the_batch_example() {
+    assert_eq!(move_words(u64::MAX, 3), Ok(vec![0x9280_0003]));
+    assert_eq!(rust::encode_mov_sequence64(u64::MAX, 3, 1), []);
+    assert_eq!(move_words(0, 31), Err(No(2)));
+    assert_eq!(patchable_words(64, 0, 31), Err(No(2)));
+}
+
+#[test]
+fn example_11_branch_26() {
+    let (base, word) = (0x1400_0000, 0x17FF_FFFF);
+    assert_eq!(disp_word(0, base, -4), Ok(word));
+    assert_eq!(rust::emit_disp_imm(0, base, -4), Some(Some(word)));
+    assert_eq!(read_disp(word, 0), Ok(-4));
+    assert_eq!(disp_word(0, base, 134217728), Err(No(5)));
+    assert_eq!(disp_word(0, base, 2), Err(No(4)));
+    assert_eq!(rust::emit_disp_imm(0, base, 2), Some(None));
+    assert_eq!(disp_word(0, 0x1400_0001, 0), Err(No(6)));
+    // Off the step is tested before the range.
+    assert_eq!(disp_word(0, base, 134217730), Err(No(4)));
+}
+
+#[test]
+fn example_12_ldr_and_adr() {
+    assert_eq!(disp_word(5, 0x5800_0000, 8), Ok(0x5800_0040));
+    assert_eq!(disp_word(3, 0x1000_0000, 5), Ok(0x3000_0020));
+    assert_eq!(rust::emit_disp_imm(3, 0x1000_0000, 5), Some(Some(0x3000_0020)));
+    // The Rust's LDR: X at +4 is a store, W at +8 an LDR to X, LDRSW at +8 a PRFM, S at +8 an LDR to D.
+    assert_eq!(rust::emit_disp_imm(5, 0x5800_0000, 4), Some(Some(0x7800_0000)));
+    assert_eq!(rust::emit_disp_imm(5, 0x1800_0000, 8), Some(Some(0x5800_0000)));
+    assert_eq!(rust::emit_disp_imm(5, 0x9800_0000, 8), Some(Some(0xD800_0000)));
+    assert_eq!(rust::emit_disp_imm(5, 0x1C00_0000, 8), Some(Some(0x5C00_0000)));
+}
+
+#[test]
+fn run_only_small_immediates() {
+    assert_eq!(encode_float(64, 1f64.to_bits()), Ok(112));
+    assert_eq!(rust::encode_fp64_to_imm8(1f64.to_bits()), 112);
+    assert_eq!(encode_float(64, 0), Err(No(3)));
+    assert_eq!(encode_byte_mask(0xFF00_0000_0000_00FF), Ok(129));
+    assert_eq!(rust::encode_imm64_byte_mask_to_imm8(0xFF00_0000_0000_00FF), 129);
+}
+
+#[test]
+fn edges_of_the_open_points() {
+    assert_eq!(rust::encode_logical_imm(1, 2), Ok(Some([0, 60, 0])));
+    assert_eq!(rust::encode_logical_imm(0xF0, 16), Ok(Some([0, 35, 12])));
+    assert_eq!(rust::encode_mov_sequence64(0, 32, 1), [0xD280_0020]);
+    assert_eq!(rust::shift_op_to_ld_st_op(16), Err(rust::Panics));
+    let overflow = if cfg!(debug_assertions) { Err(rust::Panics) } else { Ok(Some(0x17FF_FFFF)) };
+    assert_eq!(rust::emit_rel(0, 0x1400_0000, 1 << 63, 0), Some(overflow));
+    assert_eq!(disp_word(0, 0x1400_0000, distance(0, 1 << 63, 0)), Err(No(5)));
+    assert_eq!(rust::pick_fp_opcode(5, 0, (6, 1), (0, 0)), Some(Err(rust::Panics)));
+    assert_eq!(rust::pick_fp_opcode(1, 0, (6, 1), (0, 0)), Some(Ok((None, None))));
+    assert_eq!(
+        rust::pick_fp_opcode(7, 4, (0, 0), (3, 0x0EA0_F820)),
+        Some(Ok((Some(0x4EA0_F820), Some(2))))
+    );
+    assert_eq!(
+        rust::pick_fp_opcode(6, 4, (0, 0), (4, 0x0E20_D400)),
+        Some(Ok((Some(0x0E60_D400), Some(2))))
+    );
+}
+
+#[test]
+fn as_many_masks_as_arm_has() {
+    assert_eq!(masks(32).len(), 1302);
+    assert_eq!(masks(64).len(), 5334);
+}
+
+#[test]
+fn a_base_is_taken_exactly_where_the_field_stands() {
+    let fields = [0x03FF_FFFF, 0x00FF_FFE0, 0x0007_FFE0, 0x60FF_FFE0, 0x60FF_FFE0, 0x00FF_FFE0];
+    for (format, field) in (0..).zip(fields) {
+        for bit in (0..32).map(|bit| 1u32 << bit) {
+            let taken = disp_word(format, bit, 0) == Err(No(6));
+            assert_eq!(taken, field & bit != 0);
+        }
+    }
+}
+
+#[test]
+fn the_three_float_widths_spell_the_same_number() {
+    for imm8 in 0..256 {
+        let [half, single, double] = [16, 32, 64].map(|width| expand_float(width, imm8).unwrap());
+        let number = f64::from_bits(double);
+        assert_eq!(f64::from(f32::from_bits(single as u32)), number);
+        let power = 2f64.powi((half >> 10 & 31) as i32 - 15);
+        let size = power * (1.0 + (half & 1023) as f64 / 1024.0);
+        assert_eq!(if half >> 15 == 1 { -size } else { size }, number);
+    }
+}
+
+#[test]
+fn element_7() {
+    assert_eq!(element_type_to_size_op(1, 15, 0xFFFF, 7, 7), Ok(255));
+    assert_eq!(pick_fp_opcode(7, 7, (0, 0), (1, 1)), Err(No(3)));
+    assert_eq!(pick_fp_opcode(7, 7, (0, 0), (6, 1)), Err(No(7)));
+    assert_eq!(rust::element_type_to_size_op(0, 7, 7), None);
+}
