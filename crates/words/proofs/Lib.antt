@@ -3,5 +3,6 @@ mod Stores
 pub mod Answers
 pub mod Determined
 pub mod Low
+pub mod Runs
 pub mod Table
 pub mod Writes

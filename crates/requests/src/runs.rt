@@ -1,0 +1,151 @@
+// The entries that write words, over a run that is made here and printed after the call.
+use crate::Request;
+use crate::answers::answer;
+use crate::answers::one;
+use crate::low;
+use lines::Answer;
+use words::Refusal;
+use words::WordPos;
+use words::Worded;
+use words::Words;
+use words::Written;
+ghost use Prim.Native.Nat.{_<_, _≤_};
+ghost use lib.ListN.{length};
+
+// Word i is A5000000 and i, byte i is 80 and i (hex).
+const WORDS: [u32; 8] = [
+    0xA5000000, 0xA5000001, 0xA5000002, 0xA5000003, 0xA5000004, 0xA5000005, 0xA5000006, 0xA5000007,
+];
+
+const BYTES: [u8; 32] = [
+    0x80, 0x81, 0x82, 0x83, 0x84, 0x85, 0x86, 0x87, 0x88, 0x89, 0x8A, 0x8B, 0x8C, 0x8D, 0x8E, 0x8F,
+    0x90, 0x91, 0x92, 0x93, 0x94, 0x95, 0x96, 0x97, 0x98, 0x99, 0x9A, 0x9B, 0x9C, 0x9D, 0x9E, 0x9F,
+];
+
+// A word of a run, and 0 past its end.
+fn word_at(run: &[u32], i: usize) -> u32 {
+    if i < run.len() { run[i] } else { 0 }
+}
+
+// The words of a run from i on, up to four, as a line.
+fn words_at(run: &[u32], i: usize) -> Answer
+    requires { ⌜ i < length (now run) ⌝ }
+{
+    Answer::Words(Words {
+        count: run.len() - i,
+        a: word_at(run, i),
+        b: word_at(run, i + 1),
+        c: word_at(run, i + 2),
+        d: word_at(run, i + 3),
+    })
+}
+
+// The new position, or the refusal.
+fn position(w: Written) -> Answer {
+    match w {
+        Written::Done(p) => one(low(p.0 as u64)),
+        Written::No(r) => Answer::No(r),
+    }
+}
+
+// What was answered, then the run, four words to a line.
+fn run_lines(w: Written, run: &[u32], out: &mut [u8; 512]) -> usize {
+    let p = lines::line(position(w), out, 0);
+    if run.len() == 0 {
+        return p;
+    }
+    let q = lines::line(words_at(run, 0), out, p);
+    if run.len() < 5 {
+        return q;
+    }
+    lines::line(words_at(run, 4), out, q)
+}
+
+// The words of a request to a writer.
+fn words_of(r: Request) -> Worded {
+    Worded::Made(Words {
+        count: r.c as usize,
+        a: low(r.d),
+        b: low(r.e),
+        c: low(r.f),
+        d: low(r.g),
+    })
+}
+
+// How many words the run of a request has; 9 for an entry that writes none.
+fn room(r: Request) -> usize
+    ensures { λ n. ⌜ n ≤ 9 ⌝ }
+{
+    let k = r.entry;
+    match k {
+        18 => (r.a % 9) as usize,
+        _ => 9,
+    }
+}
+
+fn write(r: Request, run: &mut [u32]) -> Written {
+    let k = r.entry;
+    match k {
+        18 => words::put(run, WordPos(r.b as usize), words_of(r)),
+        _ => Written::No(Refusal::Unknown),
+    }
+}
+
+fn on_words(r: Request, n: usize, out: &mut [u8; 512]) -> usize
+    requires { ⌜ n ≤ 8 ⌝ }
+{
+    let mut run = WORDS;
+    let w = write(r, &mut run[..n]);
+    run_lines(w, &run[..n], out)
+}
+
+// A byte of a run, and 0 past its end.
+fn byte_at(run: &[u8], i: usize) -> u32
+    ensures { λ b. ⌜ b < 256 ⌝ }
+{
+    if i < run.len() { run[i] as u32 } else { 0 }
+}
+
+// Four bytes of a run as a word, low byte first.
+fn packed(run: &[u8], i: usize) -> u32
+    requires { ⌜ i ≤ 28 ⌝ }
+{
+    let low = byte_at(run, i) + byte_at(run, i + 1) * 256;
+    let high = byte_at(run, i + 2) + byte_at(run, i + 3) * 256;
+    low + high * 65536
+}
+
+fn all_packed(run: &[u8]) -> [u32; 8] {
+    [
+        packed(run, 0),
+        packed(run, 4),
+        packed(run, 8),
+        packed(run, 12),
+        packed(run, 16),
+        packed(run, 20),
+        packed(run, 24),
+        packed(run, 28),
+    ]
+}
+
+fn on_bytes(r: Request, n: usize, out: &mut [u8; 512]) -> usize
+    requires { ⌜ n ≤ 32 ⌝ }
+{
+    let mut run = BYTES;
+    let w = words::put_bytes(&mut run[..n], WordPos(r.b as usize), words_of(r));
+    let words = all_packed(&run[..n]);
+    let all = (n + 3) / 4;
+    run_lines(w, &words[..all], out)
+}
+
+// The lines of a request from the start of the run on, and how many bytes they are.
+pub(crate) fn lines_of(r: Request, out: &mut [u8; 512]) -> usize {
+    if r.entry == 19 {
+        return on_bytes(r, (r.a % 33) as usize, out);
+    }
+    let n = room(r);
+    if n < 9 {
+        return on_words(r, n, out);
+    }
+    lines::line(answer(r), out, 0)
+}
