@@ -2,6 +2,7 @@
 // eight numbers of 8 bytes, low byte first: the entry's number and seven arguments.
 mod answers;
 mod runs;
+
 ghost use Prim.Native.Nat.{_<_, _≤_};
 
 // The entry's number and its arguments.
@@ -16,7 +17,7 @@ pub(crate) struct Request {
     pub(crate) g: u64,
 }
 
-fn wide(x: u8) -> u32
+pub(crate) fn wide(x: u8) -> u32
     ensures { λ r. ⌜ r < 256 ⌝ }
 {
     x as u32
@@ -38,7 +39,7 @@ fn number(bytes: &[u8; 64], k: usize) -> u64
     half(bytes, k * 8) + half(bytes, k * 8 + 4) * 4294967296
 }
 
-fn request(bytes: &[u8; 64]) -> Request {
+fn read(bytes: &[u8; 64]) -> Request {
     Request {
         entry: number(bytes, 0),
         a: number(bytes, 1),
@@ -57,12 +58,15 @@ pub(crate) fn low(x: u64) -> u32 {
 }
 
 // The lines of one request.
-fn respond(bytes: &[u8; 64], out: &mut [u8; 512]) {
-    let r = request(bytes);
-    let n = runs::lines_of(r, out);
-    if n <= 512 {
+fn respond(bytes: &[u8; 64], out: &mut [u8]) {
+    let n = runs::lines_of(read(bytes), out);
+    if n <= out.len() {
         io::write_all(1, &out[..n]);
     }
+}
+
+fn respond_in(bytes: &[u8; 64], out: &mut [u8; 512]) {
+    respond(bytes, out);
 }
 
 // Answers every whole request of standard input on standard output. It is lent nothing and answers nothing; what it prints is compared.
@@ -76,7 +80,7 @@ pub fn answer_all()
         if io::read_full(0, &mut bytes) < 64 {
             return;
         }
-        respond(&bytes, &mut out);
+        respond_in(&bytes, &mut out);
         turns -= 1;
     }
 }

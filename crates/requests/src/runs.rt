@@ -3,23 +3,62 @@ use crate::Request;
 use crate::answers::answer;
 use crate::answers::one;
 use crate::low;
+use crate::wide;
 use lines::Answer;
 use words::Refusal;
 use words::WordPos;
 use words::Worded;
 use words::Words;
 use words::Written;
+ghost use mathlib.Core.Path.{_≡_};
 ghost use Prim.Native.Nat.{_<_, _≤_};
 ghost use lib.ListN.{length};
 
 // Word i is A5000000 and i, byte i is 80 and i (hex).
 const WORDS: [u32; 8] = [
-    0xA5000000, 0xA5000001, 0xA5000002, 0xA5000003, 0xA5000004, 0xA5000005, 0xA5000006, 0xA5000007,
+    0xA5000000,
+    0xA5000001,
+    0xA5000002,
+    0xA5000003,
+    0xA5000004,
+    0xA5000005,
+    0xA5000006,
+    0xA5000007,
 ];
 
 const BYTES: [u8; 32] = [
-    0x80, 0x81, 0x82, 0x83, 0x84, 0x85, 0x86, 0x87, 0x88, 0x89, 0x8A, 0x8B, 0x8C, 0x8D, 0x8E, 0x8F,
-    0x90, 0x91, 0x92, 0x93, 0x94, 0x95, 0x96, 0x97, 0x98, 0x99, 0x9A, 0x9B, 0x9C, 0x9D, 0x9E, 0x9F,
+    0x80,
+    0x81,
+    0x82,
+    0x83,
+    0x84,
+    0x85,
+    0x86,
+    0x87,
+    0x88,
+    0x89,
+    0x8A,
+    0x8B,
+    0x8C,
+    0x8D,
+    0x8E,
+    0x8F,
+    0x90,
+    0x91,
+    0x92,
+    0x93,
+    0x94,
+    0x95,
+    0x96,
+    0x97,
+    0x98,
+    0x99,
+    0x9A,
+    0x9B,
+    0x9C,
+    0x9D,
+    0x9E,
+    0x9F,
 ];
 
 // A word of a run, and 0 past its end.
@@ -49,7 +88,7 @@ fn position(w: Written) -> Answer {
 }
 
 // What was answered, then the run, four words to a line.
-fn run_lines(w: Written, run: &[u32], out: &mut [u8; 512]) -> usize {
+fn run_lines(w: Written, run: &[u32], out: &mut [u8]) -> usize {
     let p = lines::line(position(w), out, 0);
     if run.len() == 0 {
         return p;
@@ -91,19 +130,23 @@ fn write(r: Request, run: &mut [u32]) -> Written {
     }
 }
 
-fn on_words(r: Request, n: usize, out: &mut [u8; 512]) -> usize
+fn in_words(r: Request, run: &mut [u32], out: &mut [u8]) -> usize {
+    let w = write(r, run);
+    run_lines(w, run, out)
+}
+
+fn on_words(r: Request, n: usize, out: &mut [u8]) -> usize
     requires { ⌜ n ≤ 8 ⌝ }
 {
     let mut run = WORDS;
-    let w = write(r, &mut run[..n]);
-    run_lines(w, &run[..n], out)
+    in_words(r, &mut run[..n], out)
 }
 
 // A byte of a run, and 0 past its end.
 fn byte_at(run: &[u8], i: usize) -> u32
     ensures { λ b. ⌜ b < 256 ⌝ }
 {
-    if i < run.len() { run[i] as u32 } else { 0 }
+    if i < run.len() { wide(run[i]) } else { 0 }
 }
 
 // Four bytes of a run as a word, low byte first.
@@ -115,7 +158,9 @@ fn packed(run: &[u8], i: usize) -> u32
     low + high * 65536
 }
 
-fn all_packed(run: &[u8]) -> [u32; 8] {
+fn all_packed(run: &[u8]) -> [u32; 8]
+    ensures { λ r. ⌜ 8 ≡ length r ⌝ }
+{
     [
         packed(run, 0),
         packed(run, 4),
@@ -128,18 +173,31 @@ fn all_packed(run: &[u8]) -> [u32; 8] {
     ]
 }
 
-fn on_bytes(r: Request, n: usize, out: &mut [u8; 512]) -> usize
-    requires { ⌜ n ≤ 32 ⌝ }
+// A run of bytes as words, the last one short where a tail is left.
+fn packed_lines(w: Written, run: &[u8], out: &mut [u8]) -> usize
+    requires { ⌜ length (now run) ≤ 32 ⌝ }
 {
-    let mut run = BYTES;
-    let w = words::put_bytes(&mut run[..n], WordPos(r.b as usize), words_of(r));
-    let words = all_packed(&run[..n]);
-    let all = (n + 3) / 4;
+    let words = all_packed(run);
+    let all = (run.len() + 3) / 4;
     run_lines(w, &words[..all], out)
 }
 
+fn in_bytes(r: Request, run: &mut [u8], out: &mut [u8]) -> usize
+    requires { ⌜ length (now run) ≤ 32 ⌝ }
+{
+    let w = words::put_bytes(run, WordPos(r.b as usize), words_of(r));
+    packed_lines(w, run, out)
+}
+
+fn on_bytes(r: Request, n: usize, out: &mut [u8]) -> usize
+    requires { ⌜ n ≤ 32 ⌝ }
+{
+    let mut run = BYTES;
+    in_bytes(r, &mut run[..n], out)
+}
+
 // The lines of a request from the start of the run on, and how many bytes they are.
-pub(crate) fn lines_of(r: Request, out: &mut [u8; 512]) -> usize {
+pub(crate) fn lines_of(r: Request, out: &mut [u8]) -> usize {
     if r.entry == 19 {
         return on_bytes(r, (r.a % 33) as usize, out);
     }
