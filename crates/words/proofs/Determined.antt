@@ -3,6 +3,9 @@ use mathlib.Core.Path.{_≡_, sym, ap, _∙_}
 use mathlib.Core.Bool.{Bool}
 use mathlib.Core.List.{List}
 use Prim.Native.Nat.{ℕ, _%_, _^_, min}
+use lib.IntN.{ℤ}
+use mir.Syntax.{w64}
+use mir.Val.{toZ, ofZ}
 use Rattle.arm.specs.Bits.{Ones}
 use Rattle.words.specs.Said.{Said}
 use Rattle.words.specs.Answer.{numberOf, said, made}
@@ -34,6 +37,12 @@ lsb-mask-determined n r s p q = one-answer p q
 
 pub low-bits-determined : (x n r s : ℕ) → r ≡ x % 2 ^ min n 64 → s ≡ x % 2 ^ min n 64 → r ≡ s
 low-bits-determined x n r s p q = one-answer p q
+
+pub signed-of-determined : (x : ℕ) (r s : ℤ) → r ≡ toZ w64 x → s ≡ toZ w64 x → r ≡ s
+signed-of-determined x r s p q = one-answer p q
+
+pub bits-of-determined : (d : ℤ) (r s : ℕ) → r ≡ ofZ w64 d → s ≡ ofZ w64 d → r ≡ s
+bits-of-determined d r s p q = one-answer p q
 
 module _ (ws : List ℕ) (at : ℕ) (m : Worded) (r s : Written) (l k : List ℕ) where
   pub put-determined : (said r, l) ≡ putOf ws at (listed (made m)) → (said s, k) ≡ putOf ws at (listed (made m)) → (r ≡ s) × (l ≡ k)

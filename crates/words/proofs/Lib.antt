@@ -4,5 +4,6 @@ pub mod Answers
 pub mod Determined
 pub mod Low
 pub mod Runs
+mod Signs
 pub mod Table
 pub mod Writes

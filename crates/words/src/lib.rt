@@ -1,9 +1,11 @@
 // Module 1: positions, distances and opcode words, each a type of its own; the refusals; up to four words by value and the two writers of
-// them, one for a run of words and one for a run of bytes; masks of low bits and the bit test.
+// them, one for a run of words and one for a run of bytes; masks of low bits, the bit test, and signed numbers as 64 bits.
 ghost use mathlib.Core.Path.{_≡_};
 ghost use Prim.Native.Nat.{_+_, _-_, _*_, _%_, _^_, _≤_, _<_, min};
 ghost use lib.ListN.{length, set};
 ghost use lib.Seq.{sets};
+ghost use mir.Syntax.{w64};
+ghost use mir.Val.{toZ, ofZ};
 ghost use Rattle.arm.specs.Bits.{Ones};
 ghost use Rattle.words.specs.Said.{Said};
 ghost use Rattle.words.specs.Answer.{numberOf, said, made};
@@ -96,6 +98,28 @@ pub fn low_bits(x: u64, n: u32) -> u64
     ensures { λ r. ⌜ r ≡ x % 2 ^ min n 64 ⌝ }
 {
     x & lsb_mask(n)
+}
+
+// The number modulo 2^64, read as signed.
+pub fn signed_of(x: u64) -> i64
+    ensures { λ r. ⌜ r ≡ toZ w64 x ⌝ }
+{
+    if x < 0x8000_0000_0000_0000 {
+        x as i64
+    } else {
+        !((u64::MAX - x) as i64)
+    }
+}
+
+// The number modulo 2^64 of a signed one.
+pub fn bits_of(d: i64) -> u64
+    ensures { λ r. ⌜ r ≡ ofZ w64 d ⌝ }
+{
+    if d < 0 {
+        u64::MAX - ((!d) as u64)
+    } else {
+        d as u64
+    }
 }
 
 fn least(a: usize, b: usize) -> usize
