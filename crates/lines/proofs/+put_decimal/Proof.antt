@@ -1,11 +1,11 @@
 -- `lines::put_decimal` meets its contract: by recursion on the number. Assumes nothing.
-use mathlib.Core.Path.{sym}
 use Prim.Native.Nat.{ℕ, _<_}
 use native.Mathlib.Omega.{arith}
 use borrow.Author.Needs.{needs}
 use borrow.Fn.Kinds.{In}
 use borrow.Fn.PlainCycle.{Measures, is, falls, and}
-use Rattle.lines.proofs.Laws.{puts, wider, tight, decimal-one, decimal-more, short-tenth, short-all}
+use Rattle.lines.proofs.Digits.{decimal-one, decimal-more, short-tenth, short-all}
+use Rattle.lines.proofs.Puts.{puts, wider, tight}
 use Rattle.lines.proofs.put_decimal.Reads as put-decimal
 use Rattle.lines.proofs.put_decimal.Kinds as put-decimal-kinds
 use Rattle.lines.proofs.+put_decimal.Lts-put_decimal as put-decimal-lts
@@ -31,7 +31,8 @@ put-decimal-returns : (t : ℕ) → put-decimal-lts.Need-returns (
   put-decimal.Post,
 ) (put-decimal-at t) put-decimal.Post
 put-decimal-returns t c =
-    rw (decimal-one _ (c .before .before .before .before .if1 .taken)) (wider 1 20 (omega arith) (c .before .before .put-byte .ensures))
+    let n = c .before .before .before .before .before .before .args .n in
+    rw (decimal-one n (omega arith)) (wider 1 20 (omega arith) (c .before .before .put-byte .ensures))
 
 put-decimal-put-byte-requires-2 : (t : ℕ) → put-decimal-lts.Need-put-byte-requires-2 (
   put-byte-reads.Asked,

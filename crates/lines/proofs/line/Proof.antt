@@ -16,4 +16,4 @@ returns-3 : tie.Need-returns-3
 returns-3 c = c .before .before .put-line .ensures
 
 pub line-spec : {M : Type 1} → statement M
-line-spec = tie.close (tie.spec returns returns-2 (search needs) (search needs) returns-3)
+line-spec = tie.close (tie.spec returns returns-2 (λ c κs. omega arith) (search needs) returns-3)

@@ -3,8 +3,7 @@ use mathlib.Core.Path.{refl}
 use native.Mathlib.Numerals.{add-one}
 use native.Mathlib.Omega.{arith}
 use lib.ListN.{length-set}
-use Rattle.lines.proofs.Laws.{add-two, add-three}
-use borrow.Author.Needs.{needs}
+use Rattle.lines.proofs.Puts.{add-two, add-three}
 use Rattle.lines.proofs.put_half.Statement.{statement}
 use Rattle.lines.proofs.put_half.Tie as tie
 

@@ -1,9 +1,8 @@
 -- `lines::put_part` meets its contract. Assumes nothing.
 use mathlib.Core.Path.{_≡_}
 use mathlib.Core.Bool.{true, false}
-use Rattle.lines.proofs.Laws.{wider, none}
+use Rattle.lines.proofs.Puts.{wider, none}
 use native.Mathlib.Omega.{arith}
-use borrow.Author.Needs.{needs}
 use Rattle.lines.proofs.put_part.Statement.{statement}
 use Rattle.lines.proofs.put_part.Tie as tie
 
@@ -29,4 +28,4 @@ returns-3 c =
     rw gone (none 21 _ _)
 
 pub put-part-spec : {M : Type 1} → statement M
-put-part-spec = tie.close (tie.spec (search needs) (search needs) returns (search needs) (search needs) returns-2 returns-3)
+put-part-spec = tie.close (tie.spec (λ c κs. omega arith) (λ c. returns c .same) returns (λ c κs. omega arith) (λ c. returns-2 c .same) returns-2 returns-3)

@@ -1,39 +1,24 @@
 -- `lines::put_text` meets its contract. Assumes nothing.
-use mathlib.Core.Path.{_≡_, refl, sym, ap, _∙_}
-use mathlib.Core.List.{List, [], _∷_}
+use mathlib.Core.Path.{_≡_, refl, ap, _∙_}
+use mathlib.Core.List.{List}
 use Prim.Native.Nat.{ℕ, _+_, _-_, _≤_}
 use native.Mathlib.Numerals.{add-one}
 use native.Mathlib.Omega.{arith}
 use lib.ListN.{length, set, take, getD, length-set}
-use lib.Seq.{sets, length-sets, take-length}
+use lib.Seq.{sets, take-length}
 use Rattle.words.proofs.Runs.{one-more}
-use borrow.Author.Needs.{needs}
 use Rattle.lines.proofs.put_text.Statement.{statement}
 use Rattle.lines.proofs.put_text.Tie as tie
 
 abbrev Inv-loop : tie.InvT-loop
-Inv-loop out₀ at text k₀ out k = (k ≤ length text) × (length text ≤ 12) × (at + 12 ≤ length out₀) × (length out ≡ length out₀) × (out ≡ sets out₀ at (take k text))
+Inv-loop out₀ at text k₀ out k =
+    (k ≤ length text) × (length text ≤ 12) × (at + 12 ≤ length out₀) × (length out ≡ length out₀) × (out ≡ sets out₀ at (take k text))
 
 abbrev μ-loop : tie.MeasureT-loop
 μ-loop out₀ at text k₀ out k = length text - k
 
 loop-holds : tie.Need-loop-holds Inv-loop μ-loop
 loop-holds c = (omega arith, omega arith, omega arith, refl, refl)
-
-shared-slice-read-out : tie.Need-shared-slice-read-out Inv-loop μ-loop
-shared-slice-read-out c = omega arith
-
-add-out : tie.Need-add-out Inv-loop μ-loop
-add-out c = omega arith
-
-slice-write-out : tie.Need-slice-write-out Inv-loop μ-loop
-slice-write-out c = omega arith
-
-add-k : tie.Need-add-k Inv-loop μ-loop
-add-k c = omega arith
-
-loop-less : tie.Need-loop-less Inv-loop μ-loop
-loop-less c = omega arith
 
 loop-again : tie.Need-loop-again Inv-loop μ-loop
 loop-again c =
@@ -43,12 +28,6 @@ loop-again c =
     ap (λ (l : List ℕ). set l (a .at + h .k) (getD (a .text .now) (h .k) 0)) (h .inv .4)
     ∙ one-more (a .out .now) (a .text .now) (a .at) (h .k) (omega arith) ∙ rw add-one in
     (omega arith, omega arith, omega arith, simp length-set (omega arith), e)
-
-add-result : tie.Need-add-result Inv-loop μ-loop
-add-result c = omega arith
-
-same-length : tie.Need-same-length Inv-loop μ-loop
-same-length c = search needs
 
 returns : tie.Need-returns Inv-loop μ-loop
 returns c =
@@ -63,4 +42,18 @@ returns c =
     }
 
 pub put-text-spec : {M : Type 1} → statement M
-put-text-spec = tie.close (tie.spec Inv-loop μ-loop loop-holds shared-slice-read-out add-out slice-write-out add-k loop-less loop-again add-result same-length returns)
+put-text-spec =
+    tie.close
+    (tie.spec
+    Inv-loop
+    μ-loop
+    loop-holds
+    (λ c. omega arith)
+    (λ c. omega arith)
+    (λ c. omega arith)
+    (λ c. omega arith)
+    (λ c. omega arith)
+    loop-again
+    (λ c. omega arith)
+    (λ c. returns c .same)
+    returns)

@@ -1,21 +1,18 @@
--- Laws of bytes put into a run, of digits, and of lists of up to four. Assumes nothing.
+-- Bytes put into a run, list by list. Assumes nothing.
 use mathlib.Core.Path.{_≡_, refl, sym, ap, _∙_}
-use mathlib.Core.Bool.{Bool, true, false, cond}
 use mathlib.Core.List.{List, [], _∷_, _++_, append-nil}
-use Prim.Native.Nat.{ℕ, zero, suc, _+_, _*_, _/_, _%_, _^_, _≤_, _<_}
+use Prim.Native.Nat.{ℕ, zero, suc, _+_, _≤_}
 use native.Mathlib.Nat.{add-zero}
 use native.Mathlib.Omega.{arith}
-use borrow.Author.Tests.{lt-ltb, le-ltb, ltb-true, ltb-false}
+use borrow.Author.Tests.{lt-ltb}
 use lib.Dec.{ltb}
 use lib.ListN.{length, take, length-append}
 use lib.Seq.{sets, take-nil}
 use Rattle.words.proofs.Runs.{sets-append}
 use Rattle.lines.specs.Item.{Item}
-use Rattle.lines.specs.Text.{digit, decimalIn, decimal, spaced, textOf, lineAt}
+use Rattle.lines.specs.Text.{spaced, textOf, lineAt}
 use Rattle.lines.specs.Steps.{Put, part}
 use Rattle.lines.proofs.Lines.{line-fits}
-
--- ---- bytes put into a run
 
 module _ {o o′ : List ℕ} {at r : ℕ} {a : List ℕ} where
   -- one list after the other
@@ -50,48 +47,7 @@ line-is {o = o} {o′ = o′} {at = at} i h p =
 pub line-none : (o : List ℕ) (at : ℕ) → at + 96 ≤ length o → _≡_ {A = ℕ × List ℕ} (at, o) (lineAt o at [])
 line-none o at h = ap (λ (k : ℕ). (k, o)) (sym (add-zero at)) ∙ sym (line-fits o at [] h)
 
--- ---- digits
-
--- a hex digit with no test
-pub digit-is : (d : ℕ) → d < 16 → 48 + d + d / 10 * 39 ≡ digit d
-digit-is d h = go (ltb d 10) refl
-  where
-    go : (b : Bool) → ltb d 10 ≡ b → 48 + d + d / 10 * 39 ≡ digit d
-    go true t = let l = ltb-true d 10 t in simp (lt-ltb d 10 l) (omega arith)
-    go false t = let l = ltb-false d 10 t in simp (le-ltb d 10 l) (omega arith)
-
--- one digit's room less is enough for a number that has them all
-fewer : (k n : ℕ) → n < 10 ^ suc k → decimalIn (suc k) n ≡ decimalIn (suc (suc k)) n
-fewer zero n h = let l : n < 10 = omega arith in simp (lt-ltb n 10 l)
-fewer (suc k) n h = ap (λ (t : List ℕ). cond (ltb n 10) ((48 + n) ∷ []) (t ++ ((48 + n % 10) ∷ []))) (fewer k (n / 10) (omega arith))
-
-short-decimal : (k n : ℕ) → length (decimalIn k n) ≤ k
-short-decimal zero n = omega arith
-short-decimal (suc k) n = go (short-decimal k (n / 10)) (ltb n 10)
-  where
-    go : length (decimalIn k (n / 10)) ≤ k → (b : Bool) → length (cond b ((48 + n) ∷ []) (decimalIn k (n / 10) ++ ((48 + n % 10) ∷ []))) ≤ suc k
-    go h true = omega arith
-    go h false = simp length-append (omega arith)
-
-pub decimal-one : (n : ℕ) → n < 10 → decimal n ≡ (48 + n) ∷ []
-unfolding decimal
-decimal-one n h = simp (lt-ltb n 10 h)
-
-pub decimal-more : (n : ℕ) → 10 ≤ n → n < 2 ^ 64 → decimal n ≡ decimal (n / 10) ++ ((48 + n % 10) ∷ [])
-unfolding decimal
-decimal-more n h f = simp (le-ltb n 10 h) (ap (λ (t : List ℕ). t ++ ((48 + n % 10) ∷ [])) (fewer 18 (n / 10) (omega arith)))
-
--- a tenth has a digit less
-pub short-tenth : (n : ℕ) → n < 2 ^ 64 → length (decimal (n / 10)) ≤ 19
-unfolding decimal
-short-tenth n f = rw (← fewer 18 (n / 10) (omega arith)) (short-decimal 19 (n / 10))
-
-pub short-all : (n : ℕ) → length (decimal n) ≤ 20
-unfolding decimal
-short-all n = short-decimal 20 n
-
--- ---- a list of up to four, number by number
-
+-- a list of up to four, number by number
 pub parts : (f : ℕ → List ℕ) (n a b c d : ℕ)
     → part f (ltb 0 n) a ++ (part f (ltb 1 n) b ++ (part f (ltb 2 n) c ++ part f (ltb 3 n) d)) ≡ spaced f (take n (a ∷ b ∷ c ∷ d ∷ []))
 parts f zero a b c d = refl
@@ -103,8 +59,7 @@ parts f (suc (suc (suc (suc n)))) a b c d =
     simp (take-nil {A = ℕ} n, lt-ltb 0 all (omega arith), lt-ltb 1 all (omega arith), lt-ltb 2 all (omega arith), lt-ltb 3 all (omega arith))
     (rw (append-nil (f d)))
 
--- ---- `sets` counts by suc, the code by + 2, + 3
-
+-- `sets` counts by suc, the code by + 2, + 3
 pub add-two : (i : ℕ) → i + 2 ≡ suc (suc i)
 add-two i = omega arith
 

@@ -1,0 +1,63 @@
+-- A field of n bits at bit p of a word w, put there as w + g * 2 ^ p: it reads as g, and every other part of the word as before; and a field
+-- is clear exactly if each of its bits is. Assumes nothing.
+use mathlib.Core.Path.{_≡_, refl, sym, ap, _∙_}
+use Prim.Native.Nat.{ℕ, zero, suc, _+_, _-_, _*_, _/_, _%_, _^_, _<_, _≤_}
+use native.Mathlib.Nat.{add-mul-div-right, add-mul-mod-self-right, div-add-mod', zero-div, mod-one}
+use native.Mathlib.Omega.{arith}
+use lib.Arith.{digits-div, digits-mod}
+use lib.Pow.{pow-pos, pow-add, shr-shr, field, mod-mod-pow, mod-pow-add}
+
+-- the slice of l bits at bit q
+abbrev pub part : ℕ → ℕ → ℕ → ℕ
+part q l w = w / 2 ^ q % 2 ^ l
+
+-- a slice that ends at or below the field
+pub part-below : (p q l w g : ℕ) → q + l ≤ p → part q l (w + g * 2 ^ p) ≡ part q l w
+part-below p q l w g h =
+    let e : p ≡ p - (q + l) + (l + q) = omega arith in
+    let f : g * 2 ^ p ≡ g * 2 ^ (p - (q + l)) * 2 ^ l * 2 ^ q =
+    ap (λ (k : ℕ). g * 2 ^ k) e ∙ simp (pow-add 2 (p - (q + l)) (l + q), pow-add 2 l q) (omega arith) in
+    rw (f, add-mul-div-right w (g * 2 ^ (p - (q + l)) * 2 ^ l) (pow-pos q)) (add-mul-mod-self-right (w / 2 ^ q) (g * 2 ^ (p - (q + l))) (2 ^ l))
+
+module _ (p n w g : ℕ) (free : part p n w ≡ 0) (fits : g < 2 ^ n) where
+  -- the field over what stands above it
+  whole : (w + g * 2 ^ p) / 2 ^ p ≡ w / 2 ^ p / 2 ^ n * 2 ^ n + g
+  whole = add-mul-div-right w g (pow-pos p) ∙ omega (arith, div-add-mod' (w / 2 ^ p) (2 ^ n))
+
+  pub part-there : part p n (w + g * 2 ^ p) ≡ g
+  part-there = rw whole (digits-mod (w / 2 ^ p / 2 ^ n) fits)
+
+  -- what stands at or above the field's end
+  pub high-kept : (q : ℕ) → p + n ≤ q → (w + g * 2 ^ p) / 2 ^ q ≡ w / 2 ^ q
+  high-kept q h =
+      let e : p + n + (q - (p + n)) ≡ q = omega arith in
+      let at : (v : ℕ) → v / 2 ^ p / 2 ^ n / 2 ^ (q - (p + n)) ≡ v / 2 ^ q = λ v. rw (shr-shr v p n, shr-shr v (p + n) (q - (p + n)), e) refl in
+      sym (at (w + g * 2 ^ p)) ∙ rw (whole, digits-div (w / 2 ^ p / 2 ^ n) fits) (at w)
+
+  pub part-above : (q l : ℕ) → p + n ≤ q → part q l (w + g * 2 ^ p) ≡ part q l w
+  part-above q l h = ap (λ (v : ℕ). v % 2 ^ l) (high-kept q h)
+
+-- ---- a field and its bits
+
+-- bit q of a word
+abbrev pub bit : ℕ → ℕ → ℕ
+bit q w = part q 1 w
+
+pub bit-of-clear : (p n w : ℕ) → part p n w ≡ 0 → (q : ℕ) → p ≤ q → q < p + n → bit q w ≡ 0
+bit-of-clear p n w e q lo hi =
+    let a : n ≡ n - (q - p) + (q - p) = omega arith in
+    let b : n - (q - p) ≡ n - (q - p) - 1 + 1 = omega arith in
+    let c : p + (q - p) ≡ q = omega arith in
+    let x = w / 2 ^ p in
+    let z : x / 2 ^ (q - p) % 2 ^ (n - (q - p)) ≡ 0 =
+    sym (field x (n - (q - p)) (q - p)) ∙ ap (λ (v : ℕ). v / 2 ^ (q - p)) (ap (λ (k : ℕ). x % 2 ^ k) (sym a) ∙ e) ∙ zero-div (2 ^ (q - p)) in
+    let y : w / 2 ^ q % 2 ^ (n - (q - p)) ≡ 0 = ap (λ (k : ℕ). w / 2 ^ k % 2 ^ (n - (q - p))) (sym c) ∙ ap (λ (v : ℕ). v % 2 ^ (n - (q - p))) (sym (shr-shr w p (q - p))) ∙ z in
+    sym (mod-mod-pow (w / 2 ^ q) (n - (q - p) - 1) 1) ∙ ap (λ (v : ℕ). v % 2 ^ 1) (ap (λ (k : ℕ). w / 2 ^ q % 2 ^ k) (sym b) ∙ y)
+
+pub clear-of-bits : (p n w : ℕ) → ((q : ℕ) → p ≤ q → q < p + n → bit q w ≡ 0) → part p n w ≡ 0
+clear-of-bits p zero w h = mod-one (w / 2 ^ p)
+clear-of-bits p (suc n) w h =
+    let below = clear-of-bits p n w (λ q lo hi. h q lo (omega arith)) in
+    let top : w / 2 ^ p / 2 ^ n % 2 ^ 1 ≡ 0 = ap (λ (v : ℕ). v % 2 ^ 1) (shr-shr w p n) ∙ h (p + n) (omega arith) (omega arith) in
+    let more : suc n ≡ 1 + n = omega arith in
+    ap (λ (k : ℕ). w / 2 ^ p % 2 ^ k) more ∙ mod-pow-add (w / 2 ^ p) 1 n ∙ rw (top, below) (omega arith)
