@@ -1,2 +1,11 @@
 -- The laws about Arm's definitions, for the proofs of other crates, and worked values.
 pub mod Examples
+-- DecodeBitMasks
+pub mod Elements
+pub mod Trailing
+pub mod Lengths
+pub mod Runs
+pub mod Fields
+pub mod Masks
+pub mod Laws
+pub mod Shortest

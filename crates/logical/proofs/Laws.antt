@@ -1,0 +1,149 @@
+-- What the promises of the encoder, the decoder and the normaliser say together. Assumes nothing.
+use mathlib.Core.Path.{_≡_, refl, sym, ap, _∙_, subst⁻¹}
+use mathlib.Core.Logic.{inl, inr, ⊎-elim}
+use Prim.Native.Nat.{ℕ, _-_, _*_, _%_, _^_, _≤_, _<_}
+use native.Mathlib.Nat.{mod-eq-of-lt, mod-mod, mod-le}
+use native.Mathlib.Omega.{arith}
+use lib.Pow.{lt-of-le-ones}
+use Rattle.arm.specs.Bits.{Ones}
+use Rattle.arm.specs.BitMasks.{IsWidth, wmask, esize}
+use Rattle.arm.proofs.Elements.{IsRun, nOf, sOf}
+use Rattle.arm.proofs.Lengths.{ones-mod}
+use Rattle.arm.proofs.Trailing.{parity}
+use Rattle.arm.proofs.Masks as masks
+use Rattle.arm.proofs.Laws.{shape, same-fields, turn-mask}
+use Rattle.words.specs.Said.{Said, ok, no}
+use Rattle.logical.specs.declared.LogicalImm.{LogicalImm}
+use Rattle.logical.specs.Answer.{fields, Refused, Decodes, Encoded, Decoded, Normal}
+use Rattle.logical.specs.Run.{Evened}
+
+-- ---- one answer
+
+fields-is : {n s r n' s' r' : ℕ} → n ≡ n' → s ≡ s' → r ≡ r' → fields n s r ≡ fields n' s' r'
+fields-is p q t = cc
+
+-- a width at which 3 is not given bars every refusal; and two refusals give one number
+pub not-refused : {A W N : Type 0} {k : ℕ} → W → (N → ⊥) → Refused k W N → A
+not-refused w n h = absurd (⊎-elim (λ a. a .1 w) (λ b. n (b .2)) h)
+
+one-number : {W N : Type 0} {j k : ℕ} → Refused j W N → Refused k W N → j ≡ k
+one-number a b =
+    ⊎-elim
+    (λ p. ⊎-elim (λ q. p .0 ∙ sym (q .0)) (λ q. absurd (p .1 (q .1))) b)
+    (λ p. ⊎-elim (λ q. absurd (q .1 (p .1))) (λ q. p .0 ∙ sym (q .0)) b)
+    a
+
+pub one-fields : {w : ℕ} (v v' : ℕ) {f g : LogicalImm} → Encoded w v (ok f) → Encoded w v' (ok g) → v % 2 ^ w ≡ v' % 2 ^ w → f ≡ g
+one-fields v v' a b q =
+    let t = same-fields (a .0) (a .1 .legal) (b .1 .legal) (a .1 .mask ∙ q ∙ sym (b .1 .mask)) in
+    fields-is (t .0) (t .1) (sym (mod-eq-of-lt (a .2)) ∙ t .2 ∙ mod-eq-of-lt (b .2))
+
+pub encoded-one : (w v : ℕ) (a b : Said LogicalImm) → Encoded w v a → Encoded w v b → a ≡ b
+encoded-one w v (ok f) (ok g) a b = ap ok (one-fields v v a b refl)
+encoded-one w v (ok f) (no k) a b = not-refused (a .0) (λ none. none _ _ _ (a .1)) b
+encoded-one w v (no k) (ok g) a b = not-refused (b .0) (λ none. none _ _ _ (b .1)) a
+encoded-one w v (no j) (no k) a b = ap no (one-number a b)
+
+pub decoded-one : (w n s r : ℕ) (a b : Said ℕ) → Decoded w n s r a → Decoded w n s r b → a ≡ b
+decoded-one w n s r (ok m) (ok m') a b = ap ok (sym (a .1 .mask) ∙ b .1 .mask)
+decoded-one w n s r (ok m) (no k) a b = not-refused (a .0) (λ none. none (a .1 .legal)) b
+decoded-one w n s r (no k) (ok m) a b = not-refused (b .0) (λ none. none (b .1 .legal)) a
+decoded-one w n s r (no j) (no k) a b = ap no (one-number a b)
+
+pub normal-one : (w n s r : ℕ) (a b : Said LogicalImm) → Normal w n s r a → Normal w n s r b → a ≡ b
+normal-one w n s r (ok f) (ok g) a b = ap ok (a .2 ∙ sym (b .2))
+normal-one w n s r (ok f) (no k) a b = not-refused (a .0) (λ none. none (a .1)) b
+normal-one w n s r (no k) (ok g) a b = not-refused (b .0) (λ none. none (b .1)) a
+normal-one w n s r (no j) (no k) a b = ap no (one-number a b)
+
+-- ---- decoding, then encoding
+
+-- the fields with R reduced are legal and decode to the same mask
+pub reduced : {w n s r m : ℕ} → Decodes w n s r m → Decodes w n s (r % esize n s) m
+reduced {w} {n} {s} {r} h =
+    let a = h .legal in
+    let low : r % esize n s ≤ 63 = omega (arith, mod-le r (esize n s), a .r-bits) in
+    record {
+      legal = record { n-bits = a .n-bits; s-bits = a .s-bits; r-bits = low; some-len = a .some-len; not-all = a .not-all; narrow = a .narrow };
+      mask = turn-mask w n s r ∙ h .mask;
+    }
+
+pub again : (w n s r m : ℕ) → Decoded w n s r (ok m) → Encoded w m (ok (fields n s (r % esize n s)))
+again w n s r m d =
+    let a = shape (d .0) (d .1 .legal) in
+    let low : m % 2 ^ w ≡ m = rw (← d .1 .mask) (mod-eq-of-lt (lt-of-le-ones w (a .small))) in
+    (d .0, rw low (reduced (d .1)), a .turn)
+
+-- normalising is decoding, then encoding
+pub normal-of : (w n s r m : ℕ) (a : Said LogicalImm) → Decoded w n s r (ok m) → Encoded w m a → Normal w n s r a
+normal-of w n s r m a d e =
+    let is : a ≡ ok (fields n s (r % esize n s)) = encoded-one w m a _ e (again w n s r m d) in
+    subst⁻¹ (λ (b : Said LogicalImm). Normal w n s r b) is (d .0, d .1 .legal, refl)
+
+-- ---- from a run to the encoder's answer
+
+-- an answer to the low bits is an answer to the value
+pub encoded-low : (w v : ℕ) (a : Said LogicalImm) → Encoded w (v % 2 ^ w) a → Encoded w v a
+encoded-low w v (ok f) h = rw (mod-mod v (2 ^ w)) at h
+encoded-low w v (no k) h = rw (mod-mod v (2 ^ w)) at h
+
+pub turned : {w v : ℕ} → IsWidth w → v < 2 ^ w → v % 2 ≡ 1 → Evened w v (Ones w - v)
+turned {w} {v} ww h odd =
+    let one = ones-mod ww in
+    record { same = λ q. absurd (omega arith); other = λ q. refl; even = omega arith; small = omega arith }
+
+module _ {w v : ℕ} (ww : IsWidth w) (small : v < 2 ^ w) where
+  pub even-answer : {e p l : ℕ} → IsRun w v e p l → Encoded w v (ok (fields (nOf e) (sOf e l) (e - p)))
+  even-answer h =
+      let t = masks.run-even ww h in
+      (ww, record { legal = t .0 .legal; mask = t .1 ∙ sym (mod-eq-of-lt small) }, t .0 .turned)
+
+  pub odd-answer : {e p l : ℕ} → IsRun w (Ones w - v) e p l → Encoded w v (ok (fields (nOf e) (sOf e (e - l)) (e - p - l)))
+  odd-answer h =
+      let t = masks.run-odd ww h in
+      (ww, record { legal = t .0 .legal; mask = omega (arith, t .1) ∙ sym (mod-eq-of-lt small) }, t .0 .turned)
+
+  pub no-answer : {x : ℕ} → Evened w v x → ((e p l : ℕ) → IsRun w x e p l → ⊥) → Encoded w v (no 3)
+  no-answer {x} t none = inr (
+    refl,
+    ww,
+    λ n s r h.
+        let a = rw (h .mask ∙ mod-eq-of-lt small) at (shape ww (h .legal)) in
+        ⊎-elim
+        (λ (k : v % 2 ≡ 0). none _ _ _ (rw (← t .same k) at (a .even k)))
+        (λ (k : v % 2 ≡ 1). none _ _ _ (rw (← t .other k) at (a .odd k)))
+        (parity v),
+  )
+
+-- ---- width 32 by way of width 64: the value stands twice
+
+module _ (v : ℕ) (small : v < 2 ^ 32) where
+  twice : v * 4294967297 % 2 ^ 64 ≡ v * 4294967297
+  twice = mod-eq-of-lt (omega arith)
+
+  -- fields that decode to v at 32 decode to v twice at 64
+  up : (n s r : ℕ) → Decodes 32 n s r (v % 2 ^ 32) → Decodes 64 n s r (v * 4294967297 % 2 ^ 64)
+  up n s r h = record { legal = masks.wider (h .legal); mask = rw (masks.doubled-mask n s r (h .legal), h .mask, mod-eq-of-lt small) (sym twice) }
+
+  pub narrow-fields : (f : LogicalImm) → Encoded 64 (v * 4294967297) (ok f) → f .n ≡ 0 → Encoded 32 v (ok f)
+  narrow-fields f a z =
+      let h = masks.narrower (a .1 .legal) z in
+      let same : wmask 32 (f .n) (f .s) (f .r) * 4294967297 ≡ v * 4294967297 = sym (masks.doubled-mask _ _ _ h) ∙ a .1 .mask ∙ twice in
+      (inl refl, record { legal = h; mask = omega arith ∙ sym (mod-eq-of-lt small) }, a .2)
+
+  pub narrow-long : (f : LogicalImm) → Encoded 64 (v * 4294967297) (ok f) → (f .n ≡ 0 → ⊥) → Encoded 32 v (no 3)
+  narrow-long f a z = inr (
+    refl,
+    inl refl,
+    λ n s r h.
+        let b = up n s r h in
+        let t = same-fields (a .0) (a .1 .legal) (b .legal) (a .1 .mask ∙ sym (b .mask)) in
+        z (t .0 ∙ h .legal .narrow refl),
+  )
+
+  pub narrow-none : (k : ℕ) → Encoded 64 (v * 4294967297) (no k) → Encoded 32 v (no k)
+  narrow-none k a =
+      ⊎-elim
+      (λ b. absurd (b .1 (inr refl)))
+      (λ b. inr (b .0, inl refl, λ n s r h. b .2 n s r (up n s r h)))
+      a

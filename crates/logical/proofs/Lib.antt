@@ -1,0 +1,9 @@
+-- The laws of the entries for logical immediates, for the proofs of other crates.
+pub mod Demands
+pub mod Rules
+pub mod Determined
+pub mod Examples
+pub mod Model
+pub mod Word
+pub mod Laws
+pub mod Search
