@@ -9,3 +9,5 @@ pub mod Fields
 pub mod Masks
 pub mod Laws
 pub mod Shortest
+-- wide moves
+pub mod Wide

@@ -1,0 +1,20 @@
+-- `moves::encode_patchable_mov_imm` meets its contract. Assumes nothing.
+use mathlib.Core.Path.{ap, _∙_}
+use Rattle.words.specs.Put.{listed, putOf}
+use Rattle.words.proofs.Answers.{listed-packed}
+use Rattle.moves.specs.Moves.{patchSaid}
+use Rattle.moves.proofs.Lengths.{patch-short}
+use borrow.Author.Needs.{needs}
+use Rattle.moves.proofs.encode_patchable_mov_imm.Statement.{statement}
+use Rattle.moves.proofs.encode_patchable_mov_imm.Tie as tie
+
+returns : tie.Need-returns
+returns c =
+    let p = c .before .before in
+    let a = p .before .before .before .before .args in
+    let short = patch-short (a .size) (a .value) (a .rd) in
+    p .put .ensures
+    ∙ ap (putOf (a .words .now) (a .at .0)) (ap listed (p .before .patchable-mov-words .ensures) ∙ listed-packed (patchSaid (a .size) (a .value) (a .rd)) short)
+
+pub encode-patchable-mov-imm-spec : {M : Type 1} → statement M
+encode-patchable-mov-imm-spec = tie.close (tie.spec (search needs) (search needs) (search needs) returns)

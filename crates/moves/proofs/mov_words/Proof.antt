@@ -1,0 +1,32 @@
+-- `moves::mov_words` meets its contract. Assumes nothing.
+use mathlib.Core.Path.{_≡_, ap, ap₂, _∙_}
+use Prim.Native.Nat.{ℕ, _/_, _%_}
+use native.Mathlib.Omega.{arith}
+use borrow.Author.Tests.{lt-ltb, le-ltb, le-leb, lt-leb}
+use Rattle.words.specs.Said.{ok}
+use Rattle.words.specs.Put.{wordsOf}
+use Rattle.moves.specs.Moves.{half, short, movWords, movSaid}
+use borrow.Author.Needs.{needs}
+use Rattle.moves.proofs.mov_words.Statement.{statement}
+use Rattle.moves.proofs.mov_words.Tie as tie
+
+returns : tie.Need-returns
+unfolding movSaid
+returns c = simp (lt-ltb _ _ (c .if1 .taken))
+
+returns-2 : tie.Need-returns-2
+unfolding movSaid movWords
+returns-2 c =
+    let a = c .before .before .before .args in
+    let v = a .imm in
+    let hi : v / 65536 ≡ half v 1 = omega arith in
+    let lo : v % 65536 ≡ half v 0 = omega arith in
+    simp (le-ltb _ _ (c .before .before .if1 .left), le-leb _ _ (c .before .if2 .taken))
+    (ap ok (c .encode-mov-sequence32 .ensures ∙ ap₂ (λ (x y : ℕ). wordsOf (short (a .rd) x y)) hi lo))
+
+returns-3 : tie.Need-returns-3
+unfolding movSaid movWords
+returns-3 c = simp (le-ltb _ _ (c .before .before .if1 .left), lt-leb _ _ (c .before .if2 .left)) (ap ok (c .long .ensures))
+
+pub mov-words-spec : {M : Type 1} → statement M
+mov-words-spec = tie.close (tie.spec returns (search needs) (search needs) returns-2 (search needs) returns-3)

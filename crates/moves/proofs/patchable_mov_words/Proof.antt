@@ -1,0 +1,31 @@
+-- `moves::patchable_mov_words` meets its contract. Assumes nothing.
+use mathlib.Core.Path.{_≡_, sym, ap, _∙_}
+use mathlib.Core.Bool.{true, false}
+use borrow.Author.Tests.{lt-ltb, le-ltb, not-true, not-false}
+use Rattle.words.specs.Said.{ok}
+use Rattle.moves.specs.Moves.{isSize, patchSaid}
+use borrow.Author.Needs.{needs}
+use Rattle.moves.proofs.patchable_mov_words.Statement.{statement}
+use Rattle.moves.proofs.patchable_mov_words.Tie as tie
+
+returns : tie.Need-returns
+unfolding patchSaid
+returns c =
+    let e : isSize (c .before .before .args .size) ≡ false = sym (c .before .is-size .ensures) ∙ not-true _ (c .if1 .taken) in
+    simp e
+
+returns-2 : tie.Need-returns-2
+unfolding patchSaid
+returns-2 c =
+    let e : isSize (c .before .before .before .args .size) ≡ true = sym (c .before .before .is-size .ensures) ∙ not-false _ (c .before .if1 .left) in
+    simp (e, lt-ltb _ _ (c .if2 .taken))
+
+returns-3 : tie.Need-returns-3
+unfolding patchSaid
+returns-3 c =
+    let t = c .before .before in
+    let e : isSize (t .before .before .args .size) ≡ true = sym (t .before .is-size .ensures) ∙ not-false _ (t .if1 .left) in
+    simp (e, le-ltb _ _ (c .before .if2 .left)) (ap ok (c .patchable .ensures))
+
+pub patchable-mov-words-spec : {M : Type 1} → statement M
+patchable-mov-words-spec = tie.close (tie.spec (search needs) returns returns-2 (search needs) returns-3)
