@@ -11,3 +11,5 @@ pub mod Laws
 pub mod Shortest
 -- wide moves
 pub mod Wide
+-- displacements
+pub mod SignExtends

@@ -1,0 +1,279 @@
+-- What was asked of displacements, over the definitions that the contracts cite. Assumes nothing.
+use mathlib.Core.Path.{_≡_, refl, sym, ap, subst, _∙_}
+use mathlib.Core.Logic.{_⊎_, inl, inr, ⊎-elim, _↔_}
+use mathlib.Core.Bool.{Bool, true, false, cond}
+use mathlib.Core.List.{List, [], _∷_}
+use Prim.Native.Nat.{ℕ, _+_, _-_, _*_, _/_, _%_, _^_, _<_, _≤_}
+use native.Mathlib.Nat.{mod-lt, mul-pos, eq-zero-or-pos, zero-mod, zero-div, zero-mul, add-zero, lt-of-lt-of-le}
+use native.Mathlib.Omega.{arith}
+use borrow.Author.Tests.{lt-ltb, le-ltb, ltb-true, ltb-false}
+use lib.Dec.{eqb, ltb, leb→le}
+use lib.IntN.{ℤ, pos, negsuc, negℤ}
+use lib.ListN.{length, getD}
+use lib.Pow.{pow-pos, pow-mono}
+use lib.Seq.{getD-set-same, getD-set-other}
+use lib.Signed.{mag}
+use mir.Syntax.{w64}
+use mir.Val.{SFits, ofZ}
+use mir.Facts.{toZ-ofZ, ofZ-toZ, sfits-toZ}
+use Rattle.arm.proofs.SignExtends.{extend, extended}
+use Rattle.words.specs.Said.{Said, ok, no}
+use Rattle.words.specs.Put.{putOf}
+use Rattle.words.proofs.Answers.{not-both}
+use Rattle.words.proofs.Fields.{part, bit, bit-of-clear, clear-of-bits}
+use Rattle.words.proofs.Writes.{put-full, put-fits, put-done}
+use Rattle.displacements.specs.declared.Form.{Form}
+use Rattle.displacements.specs.Forms.{forms, formOf, fieldIn, putIn, step, reach, least, greatest}
+use Rattle.displacements.specs.Answer.{stepsOf, placeSaid, dispSaid, originOf, between, targetSaid, offset, readSaid}
+use Rattle.displacements.specs.Private.{Sound, offsetIn}
+use Rattle.displacements.specs.Says.{Says, unknown, taken, off, far, word, Free, OnStep, InRange}
+use Rattle.displacements.proofs.Laws.{sound, arm-reads, Outside, put-there, put-kept, rest-free, lows-free}
+use Rattle.displacements.proofs.Distances.{steps-bits, bits-steps, steps-back}
+use Rattle.displacements.proofs.Answers.{says, answers}
+
+-- ---- the table is document 01's: step, least, greatest
+
+pub record Row : Type 0 where
+  pub step : ℕ
+  pub least : ℤ
+  pub greatest : ℤ
+
+abbrev rows : List Form → List Row
+rows [] = []
+rows (f ∷ fs) = record { step = step f; least = least f; greatest = greatest f } ∷ rows fs
+
+pub the-table : rows forms ≡
+    record { step = 4; least = negℤ (pos 134217728); greatest = pos 134217724 }
+    ∷ record { step = 4; least = negℤ (pos 1048576); greatest = pos 1048572 }
+    ∷ record { step = 4; least = negℤ (pos 32768); greatest = pos 32764 }
+    ∷ record { step = 1; least = negℤ (pos 1048576); greatest = pos 1048575 }
+    ∷ record { step = 4096; least = negℤ (pos 4294967296); greatest = pos 4294963200 }
+    ∷ record { step = 4; least = negℤ (pos 1048576); greatest = pos 1048572 }
+    ∷ []
+the-table = refl
+
+-- ---- each thing is said exactly in its event, in the order 7, 6, 4, 5
+
+module _ (n b : ℕ) (d : ℤ) where
+  pub exactly : (a : Said (List ℕ)) → (dispSaid n b d ≡ a) ↔ Says n b d a
+  exactly a = (λ e. subst (Says n b d) e (says n b d), answers n b d)
+
+  pub exactly-7 : (dispSaid n b d ≡ no 7) ↔ (6 ≤ n)
+  exactly-7 = (λ e. go (exactly (no 7) .0 e), λ h. answers n b d (unknown h))
+    where
+      go : Says n b d (no 7) → 6 ≤ n
+      go (unknown h) = h
+
+  pub exactly-6 : (dispSaid n b d ≡ no 6) ↔ ((n < 6) × (Free (formOf n) b → ⊥))
+  exactly-6 = (λ e. go (exactly (no 6) .0 e), λ h. answers n b d (taken (h .0) (h .1)))
+    where
+      go : Says n b d (no 6) → (n < 6) × (Free (formOf n) b → ⊥)
+      go (taken h t) = (h, t)
+
+  pub exactly-4 : (dispSaid n b d ≡ no 4) ↔ ((n < 6) × Free (formOf n) b × (OnStep (formOf n) d → ⊥))
+  exactly-4 = (λ e. go (exactly (no 4) .0 e), λ h. answers n b d (off (h .0) (h .1) (h .2)))
+    where
+      go : Says n b d (no 4) → (n < 6) × Free (formOf n) b × (OnStep (formOf n) d → ⊥)
+      go (off h free o) = (h, free, o)
+
+  pub exactly-5 : (dispSaid n b d ≡ no 5) ↔ ((n < 6) × Free (formOf n) b × OnStep (formOf n) d × (InRange (formOf n) d → ⊥))
+  exactly-5 = (λ e. go (exactly (no 5) .0 e), λ h. answers n b d (far (h .0) (h .1) (h .2) (h .3)))
+    where
+      go : Says n b d (no 5) → (n < 6) × Free (formOf n) b × OnStep (formOf n) d × (InRange (formOf n) d → ⊥)
+      go (far h free on r) = (h, free, on, r)
+
+  pub no-other : (k : ℕ) → dispSaid n b d ≡ no k → (k ≡ 7) ⊎ (k ≡ 6) ⊎ (k ≡ 4) ⊎ (k ≡ 5)
+  no-other k e = go k (exactly (no k) .0 e)
+    where
+      go : (k : ℕ) → Says n b d (no k) → (k ≡ 7) ⊎ (k ≡ 6) ⊎ (k ≡ 4) ⊎ (k ≡ 5)
+      go k (unknown h) = inl refl
+      go k (taken h t) = inr (inl refl)
+      go k (off h free o) = inr (inr (inl refl))
+      go k (far h free on r) = inr (inr (inr refl))
+
+-- ---- a bit of the field is set, or none is
+
+-- bit q is one of the field's
+abbrev pub Inside : Form → ℕ → Type 0
+Inside f q = ((f .at ≤ q) × (q < f .at + (f .bits - f .low))) ⊎ ((29 ≤ q) × (q < 29 + f .low))
+
+apart : (p n q : ℕ) → (p ≤ q → q < p + n → ⊥) → (q + 1 ≤ p) ⊎ (p + n ≤ q)
+apart p n q h = go (ltb q p) refl
+  where
+    go : (x : Bool) → ltb q p ≡ x → (q + 1 ≤ p) ⊎ (p + n ≤ q)
+    go true e = inl (omega (arith, ltb-true q p e))
+    go false e = let past : q < p + n → ⊥ = h (ltb-false q p e) in inr (omega arith)
+
+outside-bit : (f : Form) (q : ℕ) → (Inside f q → ⊥) → Outside f q 1
+outside-bit f q h = record { rest = apart (f .at) (f .bits - f .low) q (λ lo hi. h (inl (lo, hi))); lows = apart 29 (f .low) q (λ lo hi. h (inr (lo, hi))) }
+
+module _ (n : ℕ) (h : n < 6) (b : ℕ) where
+  pub free-bits : Free (formOf n) b ↔ ((q : ℕ) → Inside (formOf n) q → bit q b ≡ 0)
+  free-bits =
+      let f = formOf n in (
+        λ free q. ⊎-elim
+            (λ (i : (f .at ≤ q) × (q < f .at + (f .bits - f .low))). bit-of-clear (f .at) (f .bits - f .low) b (rest-free f (sound n h) b free) q (i .0) (i .1))
+            (λ (i : (29 ≤ q) × (q < 29 + f .low)). bit-of-clear 29 (f .low) b (lows-free f (sound n h) b free) q (i .0) (i .1)),
+        λ clear. rw (clear-of-bits (f .at) (f .bits - f .low) b (λ q lo hi. clear q (inl (lo, hi))), clear-of-bits 29 (f .low) b (λ q lo hi. clear q (inr (lo, hi)))) (omega arith),
+      )
+
+  -- "6 where the base word already has a bit set in the field"
+  pub set-bit : (d : ℤ) (q : ℕ) → Inside (formOf n) q → bit q b ≡ 1 → dispSaid n b d ≡ no 6
+  set-bit d q i e = exactly-6 n b d .1 (h, λ free. omega (arith, free-bits .0 free q i))
+
+  -- the field is clear exactly if Arm reads the distance 0 from the word
+  pub clear-is-zero : Free (formOf n) b ↔ (offset n b ≡ 0)
+  clear-is-zero = (λ e. sym (arm-reads b n h) ∙ none (formOf n) e, λ e. only (formOf n) (eq-zero-or-pos (fieldIn (formOf n) b)) (arm-reads b n h ∙ e))
+    where
+      none : (f : Form) → fieldIn f b ≡ 0 → offsetIn f b ≡ 0
+      none f e = simp (e, zero-mul, lt-ltb 0 (reach f) (pow-pos (f .bits + f .scale - 1)))
+
+      only : (f : Form) → (fieldIn f b ≡ 0) ⊎ (0 < fieldIn f b) → offsetIn f b ≡ 0 → fieldIn f b ≡ 0
+      only f = ⊎-elim (λ e _. e) (λ p e. absurd (extended (f .bits + f .scale) (fieldIn f b * step f) (mul-pos p (pow-pos (f .scale))) e))
+
+-- the distance 0 is on every step and in every range: it asks for the base alone, and gives it back
+pub asks-base : (n b : ℕ) → dispSaid n b (pos 0) ≡ cond (ltb 5 n) (no 7) (cond (ltb 0 (fieldIn (formOf n) b)) (no 6) (ok (b ∷ [])))
+unfolding placeSaid
+asks-base n b =
+    let f = formOf n in
+    simp (zero-mod (step f), zero-div (step f), zero-mod (2 ^ f .bits), zero-div (2 ^ f .low), zero-mod (2 ^ f .low), zero-mul, add-zero, le-ltb (reach f - step f) 0 (omega arith))
+
+-- ---- what is written is read back
+
+in-reach : (f : Form) (d : ℤ) → InRange f d → mag d < reach f
+in-reach f (pos a) r = omega (arith, leb→le a (reach f - step f) (r .1 .le), pow-pos (f .scale), pow-pos (f .bits + f .scale - 1))
+in-reach f (negsuc a) r = omega (arith, leb→le a (reach f - 1) (r .0 .le), pow-pos (f .bits + f .scale - 1))
+
+module _ (f : Form) (s : Sound f) (b : ℕ) (d : ℤ) (free : Free f b) where
+  steps-lt : stepsOf f d < 2 ^ f .bits
+  steps-lt = mod-lt (ofZ w64 d / step f) (pow-pos (f .bits))
+
+  reads-at : OnStep f d → InRange f d → offsetIn f (putIn f b (stepsOf f d)) ≡ ofZ w64 d
+  reads-at on r =
+      rw (put-there f s b (stepsOf f d) free steps-lt, steps-back (f .bits) (f .scale) (ofZ w64 d) (steps-bits (f .scale) (omega (arith, s .narrow)) d on))
+      (extend (f .bits + f .scale) (omega (arith, s .some)) (omega (arith, s .narrow)) d (in-reach f d r))
+
+  kept-at : (q l : ℕ) → Outside f q l → part q l (putIn f b (stepsOf f d)) ≡ part q l b
+  kept-at q l o = put-kept f s b (stepsOf f d) free steps-lt q l o
+
+  fits-at : InRange f d → SFits w64 d
+  fits-at r = record { sfits = lt-of-lt-of-le (in-reach f d r) (pow-mono {j = 63} (omega (arith, s .narrow))) }
+
+-- what is known of a word that was made
+record Word (n b : ℕ) (d : ℤ) (w : ℕ) : Type 0 where
+  at : n < 6
+  free : Free (formOf n) b
+  on : OnStep (formOf n) d
+  range : InRange (formOf n) d
+  is : w ≡ putIn (formOf n) b (stepsOf (formOf n) d)
+
+module _ (n b : ℕ) (d : ℤ) (w : ℕ) (e : dispSaid n b d ≡ ok (w ∷ [])) where
+  known : Word n b d w
+  known = go w (exactly n b d (ok (w ∷ [])) .0 e)
+    where
+      go : (w : ℕ) → Says n b d (ok (w ∷ [])) → Word n b d w
+      go w (word h f o r) = record { at = h; free = f; on = o; range = r; is = refl }
+
+  -- Arm takes from the word the distance that was asked for
+  pub arm-reads-back : offset n w ≡ ofZ w64 d
+  arm-reads-back = sym (arm-reads w n (known .at)) ∙ rw (known .is) (reads-at (formOf n) (sound n (known .at)) b d (known .free) (known .on) (known .range))
+
+  -- and so does the reader
+  pub read-back : readSaid w n ≡ ok d
+  read-back = simp (le-ltb 5 n (omega (arith, known .at)), arm-reads-back, toZ-ofZ (fits-at (formOf n) (sound n (known .at)) b d (known .free) (known .range)))
+
+  -- every part of the word outside the field is the base's
+  pub kept : (q l : ℕ) → Outside (formOf n) q l → part q l w ≡ part q l b
+  kept q l o = rw (known .is) (kept-at (formOf n) (sound n (known .at)) b d (known .free) q l o)
+
+  -- and so is every bit that is none of the field's
+  pub kept-bit : (q : ℕ) → (Inside (formOf n) q → ⊥) → bit q w ≡ bit q b
+  kept-bit q h = kept q 1 (outside-bit (formOf n) q h)
+
+-- ---- the target entry
+
+-- it is the distance entry at the distance of the two addresses
+pub target-is-distance : (n b t a : ℕ) → targetSaid n b t a ≡ dispSaid n b (between t (originOf n a))
+target-is-distance n b t a = refl
+
+bits-between : (t o : ℕ) → ofZ w64 (between t o) ≡ (t + (2 ^ 64 - o)) % 2 ^ 64
+bits-between t o = ofZ-toZ {w = w64} (record { fits = mod-lt (t + (2 ^ 64 - o)) (pow-pos 64) })
+
+-- at format 4 the page, the address less its low 12 bits; elsewhere the address
+pub origin-page : (a : ℕ) → originOf 4 a ≡ a / 4096 * 4096
+origin-page a = omega arith
+
+origin-le : (n a : ℕ) → originOf n a ≤ a
+origin-le n a = go (eqb n 4)
+  where
+    go : (x : Bool) → cond x (a - a % 4096) a ≤ a
+    go true = omega arith
+    go false = omega arith
+
+-- by Arm's reading the instruction arrives at the target
+pub arrives : (n b t a w : ℕ) → t < 2 ^ 64 → a < 2 ^ 64 → targetSaid n b t a ≡ ok (w ∷ []) → (originOf n a + offset n w) % 2 ^ 64 ≡ t
+arrives n b t a w ht ha e = rw (arm-reads-back n b (between t (originOf n a)) w e, bits-between t (originOf n a)) (back t (originOf n a) ht (origin-le n a))
+  where
+    back : (t o : ℕ) → t < 2 ^ 64 → o ≤ a → (o + (t + (2 ^ 64 - o)) % 2 ^ 64) % 2 ^ 64 ≡ t
+    back t o h k = omega arith
+
+-- "the target must be on a page": at format 4 the distance is on the step exactly if it is
+pub on-page : (t a : ℕ) → t < 2 ^ 64 → a < 2 ^ 64 → OnStep (formOf 4) (between t (originOf 4 a)) ↔ (t % 4096 ≡ 0)
+on-page t a ht ha =
+    let o = originOf 4 a in
+    let d = between t o in
+    let low : (t + (2 ^ 64 - o)) % 2 ^ 64 % 2 ^ 12 ≡ t % 4096 = omega arith in
+    let same : ofZ w64 d % 2 ^ 12 ≡ t % 4096 = rw (bits-between t o) low in
+    (λ on. sym same ∙ steps-bits 12 (omega arith) d on, λ e. bits-steps 12 (omega arith) d (sfits-toZ {w = w64} (record { fits = mod-lt (t + (2 ^ 64 - o)) (pow-pos 64) })) (same ∙ e))
+
+-- ---- the entries that write: 8 last, and what stands at the position reads back
+
+module _ (ws : List ℕ) (at n b : ℕ) (d : ℤ) where
+  -- a refusal of the word is the entry's, and changes nothing
+  pub emit-refuses : (k : ℕ) → dispSaid n b d ≡ no k → putOf ws at (dispSaid n b d) ≡ (no k, ws)
+  unfolding putOf
+  emit-refuses k e = ap (putOf ws at) e
+
+  -- a word needs room for itself at the position
+  pub emit-8 : (w : ℕ) → dispSaid n b d ≡ ok (w ∷ []) → (putOf ws at (dispSaid n b d) ≡ (no 8, ws)) ↔ (length ws ≤ at)
+  emit-8 w e = (λ f. go (sym (ap (putOf ws at) e) ∙ f), λ h. ap (putOf ws at) e ∙ put-full ws at (w ∷ []) (omega arith))
+    where
+      go : putOf ws at (ok (w ∷ [])) ≡ (no 8, ws) → length ws ≤ at
+      go f =
+          let n : at < length ws → ⊥ = λ h. not-both (ap (λ (r : Said ℕ × List ℕ). r .0) (sym (put-fits ws at (w ∷ []) (omega arith)) ∙ f)) in
+          omega arith
+
+-- after a success the word stands at the position, the new position is one more, and every other word is as before
+pub record Emitted (ws : List ℕ) (at : ℕ) (x : Said (List ℕ)) (p : ℕ) (ws′ : List ℕ) : Type 0 where
+  pub room : at < length ws
+  pub past : p ≡ at + 1
+  pub there : x ≡ ok (getD ws′ at 0 ∷ [])
+  pub others : (k : ℕ) → (k ≡ at → ⊥) → getD ws′ k 0 ≡ getD ws k 0
+
+module _ (ws : List ℕ) (at n b : ℕ) (d : ℤ) (p : ℕ) (ws′ : List ℕ) (e : (ok p, ws′) ≡ putOf ws at (dispSaid n b d)) where
+  pub emitted : Emitted ws at (dispSaid n b d) p ws′
+  unfolding putOf
+  emitted = go (says n b d) e
+    where
+      never : {A : Type 0} (k : ℕ) → _≡_ {A = Said ℕ × List ℕ} (ok p, ws′) (no k, ws) → A
+      never k f = absurd (not-both (ap (λ (r : Said ℕ × List ℕ). r .0) f))
+
+      go : {x : Said (List ℕ)} → Says n b d x → (ok p, ws′) ≡ putOf ws at x → Emitted ws at x p ws′
+      go (unknown h) f = never 7 f
+      go (taken h t) f = never 6 f
+      go (off h free o) f = never 4 f
+      go (far h free on r) f = never 5 f
+      go (word h free on r) f =
+          let w = putIn (formOf n) b (stepsOf (formOf n) d) in
+          let done = put-done ws at ws′ (w ∷ []) p f in
+          let room : at < length ws = omega (arith, done .fits) in
+          let there : getD ws′ at 0 ≡ w = rw (done .holds) (getD-set-same ws at w 0 room) in
+          record { room = room; past = done .past; there = rw there refl; others = λ k i. rw (done .holds) (getD-set-other ws at k w 0 i) }
+
+  -- by Arm's reading and by the reader
+  pub emit-reads-back : (offset n (getD ws′ at 0) ≡ ofZ w64 d) × (readSaid (getD ws′ at 0) n ≡ ok d)
+  emit-reads-back = let w = getD ws′ at 0 in (arm-reads-back n b d w (emitted .there), read-back n b d w (emitted .there))
+
+pub emit-arrives : (ws : List ℕ) (at n b t a p : ℕ) (ws′ : List ℕ) → t < 2 ^ 64 → a < 2 ^ 64
+    → (ok p, ws′) ≡ putOf ws at (targetSaid n b t a) → (originOf n a + offset n (getD ws′ at 0)) % 2 ^ 64 ≡ t
+emit-arrives ws at n b t a p ws′ ht ha e = arrives n b t a (getD ws′ at 0) ht ha (emitted ws at n b (between t (originOf n a)) p ws′ e .there)

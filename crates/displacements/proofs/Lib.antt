@@ -1,0 +1,7 @@
+-- Laws that belong to no one function, what was asked for, and that each contract has one answer.
+pub mod Laws
+pub mod Distances
+pub mod Answers
+pub mod Demands
+pub mod Determined
+pub mod Examples

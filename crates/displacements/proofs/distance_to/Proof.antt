@@ -1,0 +1,19 @@
+-- `displacements::distance_to` meets its contract. Assumes nothing.
+use mathlib.Core.Path.{_≡_, ap, _∙_}
+use Prim.Native.Nat.{_+_, _-_, _%_, _^_}
+use native.Mathlib.Omega.{arith}
+use borrow.Author.Needs.{needs}
+use mir.Facts.{toZ-ofZ}
+use mir.Syntax.{w64}
+use mir.Val.{toZ}
+use Rattle.displacements.proofs.distance_to.Statement.{statement}
+use Rattle.displacements.proofs.distance_to.Tie as tie
+
+returns : tie.Need-returns
+returns c =
+    let a = c .before .before .args in
+    let e : c .before .wrapping-sub-u64 .result ≡ (a .target + (2 ^ 64 - a .address)) % 2 ^ 64 = omega arith in
+    toZ-ofZ {w = w64} (record { sfits = c .signed-of .ok }) ∙ c .signed-of .ensures ∙ ap (toZ w64) e
+
+pub distance-to-spec : {M : Type 1} → statement M
+distance-to-spec = tie.close (tie.spec (search needs) (search needs) returns)

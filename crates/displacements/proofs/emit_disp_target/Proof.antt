@@ -1,0 +1,20 @@
+-- `displacements::emit_disp_target` meets its contract. Assumes nothing.
+use mathlib.Core.Path.{_∙_, ap}
+use borrow.Author.Needs.{needs}
+use Rattle.words.specs.Put.{listed, putOf}
+use Rattle.words.proofs.Answers.{listed-packed}
+use Rattle.displacements.specs.Answer.{dispSaid, originOf, between}
+use Rattle.displacements.proofs.Answers.{short}
+use Rattle.displacements.proofs.emit_disp_target.Statement.{statement}
+use Rattle.displacements.proofs.emit_disp_target.Tie as tie
+
+returns : tie.Need-returns
+returns c =
+    let k = c .before .before .before in
+    let a = k .before .before .before .args in
+    let d = (between (a .target) (originOf (a .format) (a .address))) in
+    let e = ap listed (k .disp-target-word .ensures) ∙ listed-packed (dispSaid (a .format) (a .base .0) d) (short (a .format) (a .base .0) d) in
+    c .before .before .put .ensures ∙ ap (putOf (a .words .now) (a .at .0)) e
+
+pub emit-disp-target-spec : {M : Type 1} → statement M
+emit-disp-target-spec = tie.close (tie.spec (search needs) (search needs) (search needs) returns)
