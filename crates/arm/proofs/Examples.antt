@@ -11,7 +11,7 @@ use Rattle.arm.specs.Bits.{Replicate}
 use Rattle.arm.specs.BitMasks.{highestSetBit, len, esize, Legal, wmask}
 use Rattle.arm.specs.MoveWide.{decode, Regs, exec, run}
 use Rattle.arm.specs.Displacements.{B, Bcond, TBZ, ADR, ADRP, LDR}
-use Rattle.arm.specs.Immediates.{VFPExpandImm}
+use Rattle.arm.specs.Immediates.{VFPExpandImm, byteMasks, ByteMask}
 
 -- each left side is its right side
 abbrev pub allEqual : List (ℕ × ℕ) → Bool
@@ -134,3 +134,18 @@ pub floats :
     ∷ []))
 unfolding VFPExpandImm Replicate
 floats = tt
+
+-- ---- the byte mask of AdvSIMDExpandImm: the immediates of MOVI at 64 bits
+
+pub bytes :
+    T (allEqual
+    ((ByteMask 0, 0)
+    ∷ (ByteMask 129, 0xFF000000000000FF)  -- movi d0, #0xff000000000000ff: bits 7 and 0
+    ∷ (ByteMask 1, 0x00000000000000FF)
+    ∷ (ByteMask 64, 0x00FF000000000000)
+    ∷ (ByteMask 0b10101010, 0xFF00FF00FF00FF00)
+    ∷ (ByteMask 0b00001111, 0x00000000FFFFFFFF)
+    ∷ (ByteMask 255, 0xFFFFFFFFFFFFFFFF)
+    ∷ []))
+unfolding byteMasks Replicate
+bytes = tt

@@ -13,3 +13,6 @@ pub mod Shortest
 pub mod Wide
 -- displacements
 pub mod SignExtends
+-- 8-bit immediates
+pub mod Expand
+pub mod Bytes

@@ -1,6 +1,7 @@
--- Arm's VFPExpandImm (shared pseudocode): the float of N bits that an 8-bit immediate stands for. Assumes nothing.
+-- Arm's VFPExpandImm (shared pseudocode): the float of N bits that an 8-bit immediate stands for; and the byte mask of AdvSIMDExpandImm.
+-- Assumes nothing.
 use mathlib.Core.Bool.{cond}
-use Prim.Native.Nat.{ℕ, _+_, _-_, _*_, _/_, _%_, _^_}
+use Prim.Native.Nat.{ℕ, zero, suc, _+_, _-_, _*_, _/_, _%_, _^_}
 use lib.Dec.{eqb}
 use Rattle.arm.specs.Bits.{bits, join, Replicate}
 
@@ -19,3 +20,12 @@ exponentBits N = cond (eqb N 16) 5 (cond (eqb N 32) 8 11)
 -- F = (N - E) - 1
 unfoldable pub VFPExpandImm : ℕ → ℕ → ℕ
 VFPExpandImm N imm8 = let E = exponentBits N in VFPExpand E (N - E - 1) imm8
+
+-- Replicate(imm8<n-1>, 8) : .. : Replicate(imm8<0>, 8): byte i is eight times bit i
+unfoldable pub byteMasks : ℕ → ℕ → ℕ
+byteMasks zero imm8 = 0
+byteMasks (suc n) imm8 = join 8 (byteMasks n (imm8 / 2)) (Replicate 1 (bits 0 0 imm8) 8)
+
+-- AdvSIMDExpandImm, op 1, cmode 1110
+abbrev pub ByteMask : ℕ → ℕ
+ByteMask imm8 = byteMasks 8 imm8
