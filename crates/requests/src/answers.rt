@@ -1,8 +1,18 @@
 // The entries that answer by value.
 use crate::Request;
 use crate::low;
+use crate::wide;
+use displacements::DistanceAnswer;
+use immediates::Imm8Answer;
 use lines::Answer;
+use logical::LogicalAnswer;
+use logical::MaskAnswer;
 use registers::ShiftAnswer;
+use simd::LmhAnswer;
+use simd::PickAnswer;
+use simd::SizeOpAnswer;
+use simd::SizeOpMap;
+use words::Opc;
 use words::Refusal;
 use words::Words;
 
@@ -64,12 +74,140 @@ fn checks(r: Request) -> Answer {
     }
 }
 
+fn fields(a: LogicalAnswer) -> Answer {
+    match a {
+        LogicalAnswer::Fields(f) => Answer::Numbers(Words {
+            count: 3,
+            a: f.n,
+            b: f.s,
+            c: f.r,
+            d: 0,
+        }),
+        LogicalAnswer::NoFields(r) => Answer::No(r),
+    }
+}
+
+fn mask(a: MaskAnswer) -> Answer {
+    match a {
+        MaskAnswer::Mask(m) => halves(m),
+        MaskAnswer::NoMask(r) => Answer::No(r),
+    }
+}
+
+// Modules 3 to 5.
+fn values(r: Request) -> Answer {
+    let k = r.entry;
+    match k {
+        48 => fields(logical::encode_logical_imm(r.a, low(r.b))),
+        64 => mask(logical::decode_logical_imm(low(r.a), low(r.b), low(r.c), low(r.d))),
+        65 => fields(logical::normalise(low(r.a), low(r.b), low(r.c), low(r.d))),
+        82 => one(low(moves::count_zero_half_words_64(r.a) as u64)),
+        _ => Answer::No(Refusal::Unknown),
+    }
+}
+
+fn distance(a: DistanceAnswer) -> Answer {
+    match a {
+        DistanceAnswer::Distance(d) => halves(words::bits_of(d.0)),
+        DistanceAnswer::NoDistance(r) => Answer::No(r),
+    }
+}
+
+// Module 7.
+fn reader(r: Request) -> Answer {
+    if r.entry == 114 {
+        return distance(displacements::read_disp(Opc(low(r.a)), low(r.b)));
+    }
+    Answer::No(Refusal::Unknown)
+}
+
+fn imm8(a: Imm8Answer) -> Answer {
+    match a {
+        Imm8Answer::Imm8(b) => one(wide(b)),
+        Imm8Answer::NoImm8(r) => Answer::No(r),
+    }
+}
+
+// Module 8.
+fn small(r: Request) -> Answer {
+    let k = r.entry;
+    match k {
+        128 => imm8(immediates::encode_fp_to_imm8(low(r.a), r.b)),
+        129 => yes(immediates::is_fp16_imm8(low(r.a))),
+        130 => yes(immediates::is_fp32_imm8(low(r.a))),
+        131 => yes(immediates::is_fp64_imm8(r.a)),
+        132 => imm8(immediates::encode_imm64_byte_mask_to_imm8(r.a)),
+        133 => yes(immediates::is_byte_mask_imm(r.a)),
+        _ => Answer::No(Refusal::Unknown),
+    }
+}
+
+fn lmh(a: LmhAnswer) -> Answer {
+    match a {
+        LmhAnswer::Lmh(x) => Answer::Numbers(Words {
+            count: 3,
+            a: x.lm,
+            b: x.h,
+            c: x.max_rm_id,
+            d: 0,
+        }),
+        LmhAnswer::NoLmh(r) => Answer::No(r),
+    }
+}
+
+fn size_op(r: Request) -> Answer {
+    let map = SizeOpMap {
+        table_id: low(r.a),
+        size_op_mask: low(r.b),
+        accept_mask: low(r.c),
+    };
+    match simd::element_type_to_size_op(map, low(r.d), low(r.e)) {
+        SizeOpAnswer::SizeOp(x) => one(x),
+        SizeOpAnswer::NoSizeOp(n) => Answer::No(n),
+    }
+}
+
+fn pick(a: PickAnswer) -> Answer {
+    match a {
+        PickAnswer::Picked(w, size) => Answer::Numbers(Words {
+            count: 2,
+            a: w.0,
+            b: size,
+            c: 0,
+            d: 0,
+        }),
+        PickAnswer::NoPick(r) => Answer::No(r),
+    }
+}
+
+// Module 9.
+fn sizes(r: Request) -> Answer {
+    let k = r.entry;
+    match k {
+        144 => lmh(simd::encode_lmh(low(r.a), low(r.b))),
+        145 => size_op(r),
+        146 => pick(simd::pick_fp_opcode(
+            low(r.a),
+            low(r.b),
+            Opc(low(r.d)),
+            low(r.c),
+            Opc(low(r.f)),
+            low(r.e),
+        )),
+        _ => Answer::No(Refusal::Unknown),
+    }
+}
+
 // By the module, which is the number's sixteenth.
 pub(crate) fn answer(r: Request) -> Answer {
     let k = r.entry / 16;
     match k {
         1 => ground(r),
         2 => checks(r),
+        3 | 4 | 5 => values(r),
+        7 => reader(r),
+        8 => small(r),
+        9 => sizes(r),
         _ => Answer::No(Refusal::Unknown),
     }
 }

@@ -5,6 +5,8 @@ use crate::answers::one;
 use crate::low;
 use crate::wide;
 use lines::Answer;
+use words::ByteDistance;
+use words::Opc;
 use words::Refusal;
 use words::WordPos;
 use words::Worded;
@@ -118,14 +120,51 @@ fn room(r: Request) -> usize
     let k = r.entry;
     match k {
         18 => (r.a % 9) as usize,
+        49 => (r.f % 9) as usize,
+        80 => (r.c % 9) as usize,
+        96 | 112 => (r.d % 9) as usize,
+        113 => (r.e % 9) as usize,
         _ => 9,
     }
+}
+
+fn put(r: Request, run: &mut [u32]) -> Written {
+    words::put(run, WordPos(r.b as usize), words_of(r))
+}
+
+fn logical_word(r: Request, run: &mut [u32]) -> Written {
+    let at = WordPos(r.g as usize);
+    logical::emit_logical_imm(run, at, low(r.a), low(r.b), r.c, low(r.d), low(r.e))
+}
+
+fn move_to(r: Request, run: &mut [u32]) -> Written {
+    moves::encode_mov_sequence64(run, WordPos(r.d as usize), r.a, low(r.b))
+}
+
+fn patchable(r: Request, run: &mut [u32]) -> Written {
+    moves::encode_patchable_mov_imm(run, WordPos(r.e as usize), low(r.a), r.b, low(r.c))
+}
+
+fn by_distance(r: Request, run: &mut [u32]) -> Written {
+    let at = WordPos(r.e as usize);
+    let distance = ByteDistance(words::signed_of(r.c));
+    displacements::emit_disp_imm(run, at, low(r.a), Opc(low(r.b)), distance)
+}
+
+fn by_target(r: Request, run: &mut [u32]) -> Written {
+    let at = WordPos(r.f as usize);
+    displacements::emit_disp_target(run, at, low(r.a), Opc(low(r.b)), r.c, r.d)
 }
 
 fn write(r: Request, run: &mut [u32]) -> Written {
     let k = r.entry;
     match k {
-        18 => words::put(run, WordPos(r.b as usize), words_of(r)),
+        18 => put(r, run),
+        49 => logical_word(r, run),
+        80 => move_to(r, run),
+        96 => patchable(r, run),
+        112 => by_distance(r, run),
+        113 => by_target(r, run),
         _ => Written::No(Refusal::Unknown),
     }
 }
