@@ -68,7 +68,7 @@ nothing = record { stale = 0; end = refl; is = refl }
 
 rest-append : (rd : ℕ) (ps qs : List (ℕ × ℕ)) → rest rd (ps ++ qs) ≡ rest rd ps ++ rest rd qs
 rest-append rd [] qs = refl
-rest-append rd ((k, h) ∷ ps) qs = ap (λ (l : List ℕ). word movk k h rd ∷ l) (rest-append rd ps qs)
+rest-append rd ((k, h) ∷ ps) qs = rw (rest-append rd ps qs)
 
 -- a store at the end n: the end moves on, unless the halfword is f, and then the word will be stored over
 pub more : (rd f k j : ℕ) (ps : List (ℕ × ℕ)) {l : List ℕ} {n m w h : ℕ} → Holds (rest rd ps) n l → n < 4
