@@ -25,7 +25,7 @@ outside f d = ltZ d (least f) || ltZ (greatest f) d
 
 pub range-far : (f : Form) (d : ℤ) → reach f ≤ mag d → outside f d ≡ true
 range-far f (pos a) h = lt-ltb (reach f - step f) a (omega (arith, pow-pos (f .scale), pow-pos (f .bits + f .scale - 1)))
-range-far f (negsuc a) h = rw (lt-ltb (reach f - 1) a (omega (arith, pow-pos (f .bits + f .scale - 1)))) refl
+range-far f (negsuc a) h = ap (λ (x : Bool). x || false) (lt-ltb (reach f - 1) a (omega (arith, pow-pos (f .bits + f .scale - 1))))
 
 least-step : (f : Form) → Sound f → step f ∣ reach f
 least-step f s =
@@ -36,7 +36,7 @@ pub range-near : (f : Form) → Sound f → (d : ℤ) → OnStep f d → mag d <
 range-near f s (pos a) on h =
     let n : 0 < reach f - a = omega arith in
     le-ltb (reach f - step f) a (omega (arith, le-of-dvd n (dvd-sub (step f) (least-step f s) (dvd-of-mod-eq-zero (step f) on))))
-range-near f s (negsuc a) on h = rw (le-ltb (reach f - 1) a (omega arith)) refl
+range-near f s (negsuc a) on h = ap (λ (x : Bool). x || false) (le-ltb (reach f - 1) a (omega arith))
 
 -- the test is the range
 pub in-range : (f : Form) (d : ℤ) → outside f d ≡ false → InRange f d

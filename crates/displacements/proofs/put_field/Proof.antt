@@ -22,10 +22,10 @@ add-result c =
     record { fits = omega (arith, rest-made (a .args .f) (a .pre .0) (a .args .v) (a .pre .2), small a) }
 
 add-result-2 : tie.Need-add-result-2
-add-result-2 c = record { fits = rw (made c) (omega (arith, small (c .before .before .before .before))) }
+add-result-2 c = record { fits = omega (arith, made c, small (c .before .before .before .before)) }
 
 cast-result-3 : tie.Need-cast-result-3
-cast-result-3 c = record { fits = rw (made c) (small (c .before .before .before .before)) }
+cast-result-3 c = record { fits = omega (arith, made c, small (c .before .before .before .before)) }
 
 returns : tie.Need-returns
 returns c = made c
