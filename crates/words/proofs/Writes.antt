@@ -5,7 +5,7 @@ use mathlib.Core.List.{List, [], _∷_, _++_}
 use mathlib.Core.Logic.{_⊎_, inl, inr, ⊎-elim}
 use Prim.Native.Nat.{ℕ, suc, _+_, _*_, _/_, _≤_, _<_}
 use native.Mathlib.Omega.{arith}
-use borrow.Author.Tests.{le-leb, lt-leb, leb-true}
+use borrow.Author.Tests.{le-leb, lt-leb, leb-true, leb-false}
 use lib.Dec.{leb}
 use lib.ListN.{length, set, take, drop, getD, length-append}
 use lib.Seq.{sets, sets-eq, slice, take-at, drop-at, length-take-le, getD-set-other}
@@ -61,6 +61,15 @@ module _ (room place : ℕ) (l : List ℕ) (at : ℕ) (vs spelled l′ : List �
       absurd (omega arith)
   left n false e = ap (λ (r : Answer). r .1) e
 
+  full : (n : ℕ) (b : Bool) → leb (at + length vs) room ≡ b → _≡_ {A = Answer} (no n, l′) (both b) → (n ≡ 8) × (room < at + length vs)
+  full n true t e =
+      let answer : no n ≡ ok (at + length vs) = ap (λ (r : Answer). r .0) e in
+      let never : _≡_ {A = ℕ} 0 1 = cc in
+      absurd (omega arith)
+  full n false t e =
+      let answer : no n ≡ no 8 = ap (λ (r : Answer). r .0) e in
+      (cc, leb-false _ _ t)
+
 module _ (l : List ℕ) (at : ℕ) (l′ : List ℕ) where
   pub put-done : (vs : List ℕ) (p : ℕ) → _≡_ {A = Answer} (ok p, l′) (putOf l at (ok vs)) → Put (length l) at l at vs vs p l′
   unfolding putOf
@@ -80,6 +89,15 @@ module _ (l : List ℕ) (at : ℕ) (l′ : List ℕ) where
   unfolding putBytesOf
   bytes-refused (ok vs) n e = left (length l / 4) (at * 4) l at vs (allBytes vs) l′ n (leb (at + length vs) (length l / 4)) e
   bytes-refused (no m) n e = ap (λ (r : Answer). r .1) e
+
+  -- words are refused with 8 alone, and only where "the words do not fit from the position on, or the position lies past the end"
+  pub put-eight : (vs : List ℕ) (n : ℕ) → _≡_ {A = Answer} (no n, l′) (putOf l at (ok vs)) → (n ≡ 8) × (length l < at + length vs)
+  unfolding putOf
+  put-eight vs n e = full (length l) at l at vs vs l′ n (leb (at + length vs) (length l)) refl e
+
+  pub bytes-eight : (vs : List ℕ) (n : ℕ) → _≡_ {A = Answer} (no n, l′) (putBytesOf l at (ok vs)) → (n ≡ 8) × (length l / 4 < at + length vs)
+  unfolding putBytesOf
+  bytes-eight vs n e = full (length l / 4) (at * 4) l at vs (allBytes vs) l′ n (leb (at + length vs) (length l / 4)) refl e
 
 -- ---- stores, read back
 
