@@ -1,5 +1,4 @@
 -- `immediates::encode_imm64_byte_mask_to_imm8` meets its contract. Assumes nothing.
-use native.Mathlib.Omega.{arith}
 use Rattle.arm.proofs.Expand.{read-few}
 use Rattle.immediates.proofs.Laws.{mask}
 use borrow.Author.Needs.{needs}
@@ -7,7 +6,7 @@ use Rattle.immediates.proofs.encode_imm64_byte_mask_to_imm8.Statement.{
 use Rattle.immediates.proofs.encode_imm64_byte_mask_to_imm8.Tie as tie
 
 settle-requires : tie.Need-settle-requires
-settle-requires c κs = omega (arith, read-few 8 (c .before .before .args .imm))
+settle-requires c κs = rw (c .before .read-byte-mask .ensures) (read-few 8 _)
 
 returns : tie.Need-returns
 returns c =

@@ -7,10 +7,10 @@ use Rattle.immediates.proofs.expand_byte_mask.Statement.{statement}
 use Rattle.immediates.proofs.expand_byte_mask.Tie as tie
 
 mul-result : tie.Need-mul-result
-mul-result c = record { fits = omega (arith, sum-few 4 (c .before .before .args .b / 16)) }
+mul-result c = let x = c .before .before .args .b in record { fits = omega (arith, sum-few 4 x, sum-few 4 (x / 16)) }
 
 add-result : tie.Need-add-result
-add-result c = record { fits = omega (arith, sum-few 4 (c .before .before .args .b), sum-few 4 (c .before .before .args .b / 16)) }
+add-result c = let x = c .before .before .args .b in record { fits = omega (arith, sum-few 4 x, sum-few 4 (x / 16)) }
 
 returns : tie.Need-returns
 returns c = omega (arith, sum-parts 4 4 (c .before .before .args .b))

@@ -7,10 +7,10 @@ use Rattle.immediates.proofs.read_byte_mask.Statement.{statement}
 use Rattle.immediates.proofs.read_byte_mask.Tie as tie
 
 mul-result : tie.Need-mul-result
-mul-result c = record { fits = omega (arith, read-few 4 (c .before .before .args .val / 4294967296)) }
+mul-result c = let x = c .before .before .args .val in record { fits = omega (arith, read-few 4 x, read-few 4 (x / 4294967296)) }
 
 add-result : tie.Need-add-result
-add-result c = record { fits = omega (arith, read-few 4 (c .before .before .args .val), read-few 4 (c .before .before .args .val / 4294967296)) }
+add-result c = let x = c .before .before .args .val in record { fits = omega (arith, read-few 4 x, read-few 4 (x / 4294967296)) }
 
 returns : tie.Need-returns
 returns c = omega (arith, read-parts 4 4 (c .before .before .args .val))
