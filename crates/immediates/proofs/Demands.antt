@@ -103,7 +103,8 @@ test-is f x true (no n) p s = absurd (s .1 (p .0) (p .1) (p .2))
 test-is f x false (ok b) p s = absurd (p b (s .0) (s .1))
 test-is f x false (no n) p s = refl
 
-pub float-test : (N v : ℕ) (t : Bool) (a : Said ℕ) → IsFloatWidth N → Tests (VFPExpandImm N) (v % 2 ^ N) t → FloatSays N v a → t ≡ isOk a
+pub float-test :
+    (N v : ℕ) (t : Bool) (a : Said ℕ) → IsFloatWidth N → Tests (VFPExpandImm N) (v % 2 ^ N) t → FloatSays N v a → t ≡ isOk a
 unfolding FloatSays
 float-test N v t a w p (inl s) = test-is (VFPExpandImm N) (v % 2 ^ N) t a p (s .1)
 float-test N v t a w p (inr s) = absurd (s .0 w)

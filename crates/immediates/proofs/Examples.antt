@@ -44,6 +44,18 @@ float-of N v a s = one-float N v a (floatOf N v) s (by (eqb N 16) (eqb N 32) (eq
 pub mask-of : (v : ℕ) (a : Said ℕ) → MaskSays v a → a ≡ maskOf v
 mask-of v a s = one-mask v a (maskOf v) s (mask v)
 
+-- "1.0 in fp64: 112; 0.0: no 3; mask FF000000000000FF: 129"
+pub one : (a : Said ℕ) → FloatSays 64 0x3FF0000000000000 a → a ≡ ok 112
+one a s = float-of 64 0x3FF0000000000000 a s
+
+pub zero : (a : Said ℕ) → FloatSays 64 0 a → a ≡ no 3
+zero a s = float-of 64 0 a s
+
+pub ends : (a : Said ℕ) → MaskSays 0xFF000000000000FF a → a ≡ ok 129
+unfolding readMask maskSum
+ends a s = mask-of 0xFF000000000000FF a s
+
+-- neighbours, in one test
 abbrev same : Said ℕ → Said ℕ → Bool
 same (ok a) (ok b) = eqb a b
 same (ok a) (no n) = false
@@ -56,9 +68,7 @@ allSame ((a, b) ∷ ps) = same a b && allSame ps
 
 pub all-right :
     T (allSame
-    ((floatOf 64 0x3FF0000000000000, ok 112)  -- 1.0
-    ∷ (floatOf 64 0, no 3)  -- 0.0
-    ∷ (floatOf 64 0xC03F000000000000, ok 191)  -- -31.0
+    ((floatOf 64 0xC03F000000000000, ok 191)  -- -31.0
     ∷ (floatOf 64 0x3FF0000000000001, no 3)  -- a fraction bit below
     ∷ (floatOf 64 0x7FF0000000000000, no 3)  -- infinity: a wrong run of the exponent
     ∷ (floatOf 32 0x3F800000, ok 112)
@@ -69,7 +79,6 @@ pub all-right :
     ∷ (floatOf 16 0x3C01, no 3)
     ∷ (floatOf 8 0x70, no 1)
     ∷ (floatOf 0 0, no 1)
-    ∷ (maskOf 0xFF000000000000FF, ok 129)
     ∷ (maskOf 0, ok 0)
     ∷ (maskOf 0xFFFFFFFFFFFFFFFF, ok 255)
     ∷ (maskOf 0xFF00000000000000, ok 128)

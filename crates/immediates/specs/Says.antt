@@ -9,6 +9,7 @@ use Rattle.words.specs.Answer.{numberOf}
 use Rattle.immediates.specs.declared.Imm8Answer.{Imm8Answer}
 use Rattle.immediates.specs.declared.Imm8Answer.the-variants.{Imm8, NoImm8}
 
+-- the 8-bit value, or the number of a refusal
 abbrev pub said : Imm8Answer → Said ℕ
 said (Imm8 b) = ok b
 said (NoImm8 r) = no (numberOf r)
@@ -18,6 +19,7 @@ unfoldable pub Spells : (ℕ → ℕ) → ℕ → Said ℕ → Type 0
 Spells expand x (ok b) = (b < 256) × (expand b ≡ x)
 Spells expand x (no n) = (n ≡ 3) × ((b : ℕ) → b < 256 → expand b ≡ x → ⊥)
 
+-- the widths that VFPExpandImm has
 abbrev pub IsFloatWidth : ℕ → Type 0
 IsFloatWidth N = (N ≡ 16) ⊎ (N ≡ 32) ⊎ (N ≡ 64)
 

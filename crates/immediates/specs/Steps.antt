@@ -8,6 +8,7 @@ use Rattle.words.specs.Said.{Said, ok, no}
 abbrev pub settled : ℕ → ℕ → ℕ → Said ℕ
 settled b e x = cond (eqb e x) (ok b) (no 3)
 
+-- there is an answer
 abbrev pub isOk : Said ℕ → Bool
 isOk (ok b) = true
 isOk (no n) = false

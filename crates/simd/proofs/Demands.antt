@@ -53,7 +53,9 @@ Seven a = a ≡ no 7
 
 -- "only unknown numbers get 7": with known ones there is an answer, FF among them
 module _ (table mask accept kind element : ℕ) where
-  pub size-op-known : table ≤ 1 → kind ≤ 7 → element ≤ 7 → sizeOpOf table mask accept kind element ≡ ok (acceptedOf mask accept (entryOf table kind element))
+  pub size-op-known :
+      table ≤ 1 → kind ≤ 7 → element ≤ 7
+      → sizeOpOf table mask accept kind element ≡ ok (acceptedOf mask accept (entryOf table kind element))
   unfolding sizeOpOf
   size-op-known t k e = simp (le-ltb 1 table t, le-ltb 7 kind k, le-ltb 7 element e)
 
@@ -61,7 +63,8 @@ module _ (table mask accept kind element : ℕ) where
   unfolding sizeOpOf
   size-op-unknown (inl h) = simp (lt-ltb 1 table h)
   size-op-unknown (inr (inl h)) = either Seven (ltb 1 table) _ _ (λ t. refl) (λ t. simp (lt-ltb 7 kind h))
-  size-op-unknown (inr (inr h)) = either Seven (ltb 1 table) _ _ (λ t. refl) (λ t. either Seven (ltb 7 kind) _ _ (λ k. refl) (λ k. simp (lt-ltb 7 element h)))
+  size-op-unknown (inr (inr h)) =
+      either Seven (ltb 1 table) _ _ (λ t. refl) (λ t. either Seven (ltb 7 kind) _ _ (λ k. refl) (λ k. simp (lt-ltb 7 element h)))
 
 -- "FF, or an entry that is no bit of the accept mask, gives FF"
 pub ff-is-answered : (mask accept : ℕ) → acceptedOf mask accept 0xFF ≡ 0xFF
@@ -80,7 +83,9 @@ module _ (kind sbase srow sbase' srow' vbase vrow vbase' vrow' : ℕ) where
   unfolding pickOf
   scalar-only = refl
 
-  pub vector-only : (element : ℕ) → (element ≡ none → ⊥) → pickOf kind element sbase srow vbase vrow ≡ pickOf kind element sbase' srow' vbase vrow
+  pub vector-only :
+      (element : ℕ) → (element ≡ none → ⊥)
+      → pickOf kind element sbase srow vbase vrow ≡ pickOf kind element sbase' srow' vbase vrow
   unfolding pickOf
   vector-only element h = simp (ne-eqb element none h)
 
@@ -114,7 +119,9 @@ scalar-fair : (kind base n : ℕ) → PickFair base (scalarOf kind base n)
 unfolding scalarOf
 scalar-fair kind base n =
     either (PickFair base) (ltb 5 n) _ _ (λ h. inl refl)
-    (λ h. either (PickFair base) (within Vec16 Vec64 kind) _ _ (λ w. word-fair n (kind - Vec16) base base (omega (arith, last Vec16 Vec64 kind w))) (λ w. inr (inl refl)))
+    (λ h. either (PickFair base) (within Vec16 Vec64 kind) _ _
+    (λ w. word-fair n (kind - Vec16) base base (omega (arith, last Vec16 Vec64 kind w)))
+    (λ w. inr (inl refl)))
 
 vector-fair : (kind element base n : ℕ) → PickFair base (vectorOf kind element base n)
 unfolding vectorOf
@@ -124,10 +131,17 @@ vector-fair kind element base n =
     (λ w. word-fair n (element - H) base _ (omega (arith, last H D element (second (within Vec64 Vec128 kind) (within H D element) w))))
     (λ w. inr (inl refl)))
 
-pub pick-fair : (kind element sbase srow vbase vrow : ℕ) → PickFair (cond (eqb element none) sbase vbase) (pickOf kind element sbase srow vbase vrow)
+known : (base : ℕ) (k e : Bool) (a : Said (ℕ × ℕ)) → PickFair base a → PickFair base (cond k (no 7) (cond e (no 7) a))
+known base true e a f = inl refl
+known base false true a f = inl refl
+known base false false a f = f
+
+pub pick-fair :
+    (kind element sbase srow vbase vrow : ℕ) → PickFair (cond (eqb element none) sbase vbase) (pickOf kind element sbase srow vbase vrow)
 unfolding pickOf
 pick-fair kind element sbase srow vbase vrow = by (eqb element none)
   where
-    by : (t : Bool) → PickFair (cond t sbase vbase) (cond (ltb 7 kind) (no 7) (cond (ltb 7 element) (no 7) (cond t (scalarOf kind sbase srow) (vectorOf kind element vbase vrow))))
-    by true = either (PickFair sbase) (ltb 7 kind) _ _ (λ k. inl refl) (λ k. either (PickFair sbase) (ltb 7 element) _ _ (λ e. inl refl) (λ e. scalar-fair kind sbase srow))
-    by false = either (PickFair vbase) (ltb 7 kind) _ _ (λ k. inl refl) (λ k. either (PickFair vbase) (ltb 7 element) _ _ (λ e. inl refl) (λ e. vector-fair kind element vbase vrow))
+    by : (t : Bool) → PickFair (cond t sbase vbase)
+        (cond (ltb 7 kind) (no 7) (cond (ltb 7 element) (no 7) (cond t (scalarOf kind sbase srow) (vectorOf kind element vbase vrow))))
+    by true = known sbase (ltb 7 kind) (ltb 7 element) _ (scalar-fair kind sbase srow)
+    by false = known vbase (ltb 7 kind) (ltb 7 element) _ (vector-fair kind element vbase vrow)

@@ -1,8 +1,9 @@
--- Document 01's numbers of the kinds of registers and of the elements. Assumes nothing.
+-- Document 01's numbers of the kinds of registers (0 other, 1 Gp32, 2 Gp64) and of the elements (5 to 7 others). Assumes nothing.
 use mathlib.Core.Bool.{Bool, _&&_}
 use Prim.Native.Nat.{ℕ}
 use lib.Dec.{leb}
 
+-- kinds
 abbrev pub Vec8 : ℕ
 Vec8 = 3
 
@@ -18,6 +19,7 @@ Vec64 = 6
 abbrev pub Vec128 : ℕ
 Vec128 = 7
 
+-- elements
 abbrev pub none : ℕ
 none = 0
 

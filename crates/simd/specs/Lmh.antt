@@ -8,6 +8,7 @@ use Rattle.simd.specs.declared.Lmh.{Lmh}
 use Rattle.simd.specs.declared.LmhAnswer.{LmhAnswer}
 use Rattle.simd.specs.declared.LmhAnswer.the-variants as answer
 
+-- the fields and the limit, or the number of a refusal
 abbrev pub lmhSaid : LmhAnswer → Said Lmh
 lmhSaid (answer.Lmh f) = ok f
 lmhSaid (answer.NoLmh r) = no (numberOf r)

@@ -32,6 +32,7 @@ rows =
     ∷ row (1 + 2 + 4) 0x800000 0 0x400000
     ∷ []
 
+-- a row that is not there has no size
 abbrev pub rowAt : ℕ → FpRow
 rowAt n = getD rows n (record { sizes = 0; xor = [] })
 

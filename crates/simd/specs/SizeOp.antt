@@ -12,6 +12,7 @@ use Rattle.simd.specs.declared.SizeOpAnswer.{SizeOpAnswer}
 use Rattle.simd.specs.declared.SizeOpAnswer.the-variants.{SizeOp, NoSizeOp}
 use Rattle.simd.specs.Kinds.{Vec8, Vec64, Vec128, none, B, D, within}
 
+-- the size op, FF among them, or the number of a refusal
 abbrev pub sizeOpSaid : SizeOpAnswer → Said ℕ
 sizeOpSaid (SizeOp n) = ok n
 sizeOpSaid (NoSizeOp r) = no (numberOf r)
@@ -32,6 +33,7 @@ entryOf1 kind element =
     (cond (eqb kind Vec128) (getD (1 ∷ 5 ∷ 9 ∷ 13 ∷ []) (element - B) 0xFF) 0xFF))
     0xFF)
 
+-- the entry of table 0 or 1
 unfoldable pub entryOf : ℕ → ℕ → ℕ → ℕ
 entryOf table kind element = cond (eqb table 0) (entryOf0 kind element) (entryOf1 kind element)
 

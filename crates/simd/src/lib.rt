@@ -8,6 +8,7 @@ ghost use Rattle.simd.specs.Pick.{pickSaid, rowAt, wordOf, scalarOf, vec
 use words::Opc;
 use words::Refusal;
 
+// The kinds and the element that others are counted from.
 const VEC8: u32 = 3;
 
 const VEC16: u32 = 4;
@@ -46,7 +47,7 @@ pub enum PickAnswer {
     NoPick(Refusal),
 }
 
-// Of a row the sizes that it has, H 1, S 2, D 4, and the word of each.
+// A row: the sizes that it has, H 1, S 2, D 4, and the word of each.
 struct FpRow {
     sizes: u32,
     xor: [u32; 3],
@@ -184,6 +185,7 @@ pub fn element_type_to_size_op(map: SizeOpMap, kind: u32, element: u32) -> SizeO
     SizeOpAnswer::SizeOp(255)
 }
 
+// One table of rows for scalar and vector.
 fn fp_row(row: u32) -> FpRow
     requires { ⌜ row < 6 ⌝ }
     ensures { λ r. ⌜ r ≡ rowAt row ⌝ }
@@ -207,6 +209,7 @@ fn row_word(row: u32, size: u32, base: u32, word: u32) -> PickAnswer
     PickAnswer::Picked(Opc(r.xor[i] ^ word), size)
 }
 
+// The register's kind gives the size: Vec16, Vec32, Vec64.
 fn pick_scalar(kind: u32, op: Opc, row: u32) -> PickAnswer
     ensures { λ r. ⌜ pickSaid r ≡ scalarOf kind (op .0) row ⌝ }
 {
@@ -220,6 +223,7 @@ fn pick_scalar(kind: u32, op: Opc, row: u32) -> PickAnswer
     row_word(row, size, op.0, op.0)
 }
 
+// The element gives the size, H, S, D, and the register's kind bit 30: Vec64, Vec128.
 fn pick_vector(kind: u32, element: u32, op: Opc, row: u32) -> PickAnswer
     ensures { λ r. ⌜ pickSaid r ≡ vectorOf kind element (op .0) row ⌝ }
 {
