@@ -1,0 +1,4 @@
+// The batch program on an empty input.
+fn main() {
+    batches::run_all();
+}

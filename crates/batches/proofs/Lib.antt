@@ -1,0 +1,2 @@
+-- A turn of the loop that prints a block.
+pub mod Again

@@ -1,0 +1,160 @@
+-- What a host reads and finds after a call of each entry, over the definitions that the contracts cite. Assumes nothing.
+use mathlib.Core.Path.{_≡_, refl, sym, ap, subst⁻¹, _∙_}
+use mathlib.Core.Logic.{_⊎_, ⊎-elim}
+use mathlib.Core.Bool.{Bool, true, false, cond, not, _||_}
+use mathlib.Core.List.{List}
+use Prim.Native.Nat.{ℕ, _+_, _-_, _*_, _/_, _^_, _≤_, _<_}
+use native.Mathlib.Nat.{lt-of-lt-of-le}
+use native.Mathlib.Omega.{arith}
+use borrow.Author.Tests.{ltb-false}
+use lib.Dec.{leb, ltb, eqb}
+use lib.IntN.{ℤ, pos}
+use lib.ListN.{length, getD}
+use lib.Pow.{pow-mono}
+use lib.Seq.{sets, slice}
+use lib.Signed.{mag}
+use mir.Syntax.{w64}
+use mir.Val.{toZ}
+use Rattle.words.specs.Said.{Said, ok, no}
+use Rattle.words.specs.Put.{allBytes, putBytesOf}
+use Rattle.words.proofs.Answers.{not-both}
+use Rattle.words.proofs.Writes.{bytes-refused, bytes-written, bytes-others, bytes-done}
+use Rattle.moves.specs.Moves.{movSaid, patchSaid}
+use Rattle.moves.proofs.Lengths.{mov-by, patch-by, mov-some, patch64-length, patch32-length}
+use Rattle.logical.specs.Answer.{Encoded}
+use Rattle.logical.specs.Word.{baseOf, filled, wordOf}
+use Rattle.logical.specs.declared.LogicalImm.{LogicalImm}
+use Rattle.displacements.specs.Answer.{dispSaid, readSaid, offset}
+use Rattle.displacements.specs.Forms.{formOf, fieldIn, step}
+use Rattle.displacements.specs.Says.{Says, unknown, taken, off, far, word}
+use Rattle.displacements.proofs.Answers.{says}
+use Rattle.displacements.proofs.Laws.{each, sound, arm-reads, offset-lt}
+use Rattle.host.specs.Number.{told, refusalIn, valueIn, Reads, counted, hostOf, spelled}
+use Rattle.host.proofs.Reading.{Small, told-reads, extended-mag}
+
+-- ---- all that write
+
+-- four words at most, or the number of a refusal
+abbrev pub Sane : Said (List ℕ) → Type 0
+Sane (ok ws) = length ws ≤ 4
+Sane (no n) = (0 < n) × (n < 2 ^ 8)
+
+put-small : (l : List ℕ) (at : ℕ) (x : Said (List ℕ)) → Sane x → Small (counted at (putBytesOf l at x .0))
+unfolding putBytesOf
+put-small l at (ok vs) h = go (leb (at + length vs) (length l / 4))
+  where
+    go : (b : Bool) → Small (counted at (cond {A = Said ℕ × List ℕ} b (ok (at + length vs), sets l (at * 4) (allBytes vs)) (no 8, l) .0))
+    go true = omega arith
+    go false = omega arith
+put-small l at (no n) h = h
+
+not-done : (l : List ℕ) (at m p : ℕ) {k : List ℕ} → putBytesOf l at (no m) ≡ (ok p, k) → ⊥
+unfolding putBytesOf
+not-done l at m p e = not-both (sym (ap (λ (y : Said ℕ × List ℕ). y .0) e))
+
+module _ (l : List ℕ) (at n : ℕ) (l′ : List ℕ) where
+  -- the call answered n and left l′
+  abbrev pub Called : Said (List ℕ) → Type 0
+  Called x = (n, l′) ≡ hostOf at (putBytesOf l at x)
+
+  is : (x : Said (List ℕ)) → Called x → n ≡ told (counted at (putBytesOf l at x .0))
+  is x e = ap (λ (y : ℕ × List ℕ). y .0) e
+
+  left : (x : Said (List ℕ)) → Called x → l′ ≡ putBytesOf l at x .1
+  left x e = ap (λ (y : ℕ × List ℕ). y .1) e
+
+  -- the number is read as what the writer says
+  pub reads : (x : Said (List ℕ)) → Sane x → Called x → Reads n (counted at (putBytesOf l at x .0))
+  reads x h e = subst⁻¹ (λ (k : ℕ). Reads k (counted at (putBytesOf l at x .0))) (is x e) (told-reads (counted at (putBytesOf l at x .0)) (put-small l at x h))
+
+  -- with a refusal every byte is as before
+  pub kept : (x : Said (List ℕ)) → Called x → (refusalIn n ≡ 0 → ⊥) → l′ ≡ l
+  kept x e h = go (putBytesOf l at x) refl (is x e) (left x e)
+    where
+      go : (y : Said ℕ × List ℕ) → putBytesOf l at x ≡ y → n ≡ told (counted at (y .0)) → l′ ≡ y .1 → l′ ≡ l
+      go (ok p, k) q r s = absurd (h (omega arith))
+      go (no m, k) q r s = s ∙ bytes-refused l at k x m (sym q)
+
+  -- without one, the words asked for stand from the position on, as many as the value says; every other byte is as before, the tail too
+  pub record Stands (vs : List ℕ) : Type 0 where
+    pub count : valueIn n ≡ pos (length vs)
+    pub words : slice (at * 4) ((at + length vs) * 4) l′ ≡ allBytes vs
+    pub others : (k : ℕ) → (k < at * 4) ⊎ ((at + length vs) * 4 ≤ k) → getD l′ k 0 ≡ getD l k 0
+
+  pub stands : (x : Said (List ℕ)) → Sane x → Called x → refusalIn n ≡ 0 → (vs : List ℕ) × (x ≡ ok vs) × Stands vs
+  stands x h e z = go x h (putBytesOf l at x) refl (reads x h e) (left x e)
+    where
+      go : (x : Said (List ℕ)) → Sane x → (y : Said ℕ × List ℕ) → putBytesOf l at x ≡ y → Reads n (counted at (y .0)) → l′ ≡ y .1 → (vs : List ℕ) × (x ≡ ok vs) × Stands vs
+      go x h (no m, k) q r s = absurd (omega (arith, r .0, r .1))
+      go (no m) h (ok p, k) q r s = absurd (not-done l at m p q)
+      go (ok vs) h (ok p, k) q r s =
+          let d = bytes-done l at k vs p (sym q) in
+          let many : p - at ≡ length vs = omega (arith, d .past) in (
+            vs,
+            refl,
+            record {
+              count = r .1 ∙ ap pos many;
+              words = rw (s, ← d .past) (bytes-written l at vs p k (sym q));
+              others = λ j o. rw s (bytes-others l at vs p k (sym q) j (rw (← d .past) at o));
+            },
+          )
+
+-- ---- each entry's words are four at most, and its refusals are document 01's
+
+pub move-sane : (rd v : ℕ) → Sane (movSaid rd v)
+move-sane rd v = mov-by rd v Sane (λ h. omega arith) (λ l. mov-some rd v .most)
+
+pub patchable-sane : (size v rd : ℕ) → Sane (patchSaid size v rd)
+patchable-sane size v rd = patch-by size v rd Sane (omega arith) (omega arith) (λ e l. omega (arith, patch64-length v rd)) (λ e l. omega (arith, patch32-length v rd))
+
+pub displacement-sane : (n b : ℕ) (d : ℤ) → Sane (dispSaid n b d)
+displacement-sane n b d = go (says n b d)
+  where
+    go : {a : Said (List ℕ)} → Says n b d a → Sane a
+    go (unknown h) = omega arith
+    go (taken h t) = omega arith
+    go (off h free o) = omega arith
+    go (far h free on r) = omega arith
+    go (word h free on r) = omega arith
+
+-- the encoder's numbers are 1 and 3
+number-sane : (w v k : ℕ) → Encoded w v (no k) → (0 < k) × (k < 2 ^ 8)
+number-sane w v k h = ⊎-elim (λ a. omega (arith, a .0)) (λ b. omega (arith, b .0)) h
+
+pub word-sane : (operation w v rn rd : ℕ) (a : Said LogicalImm) → Encoded w v a → Sane (wordOf operation w rn rd a)
+unfolding wordOf
+word-sane operation w v rn rd a = go (ltb 3 operation) (not (eqb w 32 || eqb w 64)) (ltb 31 rn || ltb 31 rd) a
+  where
+    go : (b c d : Bool) (a : Said LogicalImm) → Encoded w v a → Sane (cond b (no 7) (cond c (no 1) (cond d (no 2) (filled (baseOf operation w) rn rd a))))
+    go true c d a h = omega arith
+    go false true d a h = omega arith
+    go false false true a h = omega arith
+    go false false false (ok f) h = omega arith
+    go false false false (no k) h = number-sane w v k h
+
+-- ---- the two that write nothing
+
+pub fields-read : (w v n : ℕ) (a : Said LogicalImm) → Encoded w v a → n ≡ told (spelled a) → Reads n (spelled a)
+fields-read w v n a h e = subst⁻¹ (λ (k : ℕ). Reads k (spelled a)) e (told-reads (spelled a) (small a h))
+  where
+    small : (a : Said LogicalImm) → Encoded w v a → Small (spelled a)
+    small (ok f) h = omega (arith, h .1 .legal .n-bits, h .1 .legal .s-bits, h .1 .legal .r-bits)
+    small (no k) h = number-sane w v k h
+
+pub distance-read : (w n r : ℕ) → r ≡ told (readSaid w n) → Reads r (readSaid w n)
+distance-read w n r e = subst⁻¹ (λ (k : ℕ). Reads k (readSaid w n)) e (told-reads (readSaid w n) (go (ltb 5 n) refl))
+  where
+    narrow : (n : ℕ) → n < 6 → formOf n .bits + formOf n .scale ≤ 33
+    narrow = each (λ n. formOf n .bits + formOf n .scale ≤ 33) (omega arith) (omega arith) (omega arith) (omega arith) (omega arith) (omega arith)
+
+    near : n < 6 → mag (toZ w64 (offset n w)) < 2 ^ 55
+    near h =
+        let f = formOf n in
+        let s = sound n h in
+        let t = narrow n h in
+        rw (← arm-reads w n h)
+        (lt-of-lt-of-le (extended-mag (f .bits + f .scale) (fieldIn f w * step f) (omega (arith, s .some)) (omega arith) (offset-lt f s w)) (pow-mono {j = 55} (omega arith)))
+
+    go : (b : Bool) → ltb 5 n ≡ b → Small (cond b (no 7) (ok (toZ w64 (offset n w))))
+    go true q = omega arith
+    go false q = near (omega (arith, ltb-false 5 n q))

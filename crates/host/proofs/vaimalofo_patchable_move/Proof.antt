@@ -1,0 +1,20 @@
+-- `host::vaimalofo_patchable_move` meets its contract. Assumes nothing.
+use mathlib.Core.Path.{ap, _∙_}
+use Rattle.words.specs.Put.{listed}
+use Rattle.words.proofs.Answers.{listed-packed}
+use Rattle.moves.specs.Moves.{patchSaid}
+use Rattle.moves.proofs.Lengths.{patch-short}
+use Rattle.host.proofs.Laws.{asked}
+use borrow.Author.Needs.{needs}
+use Rattle.host.proofs.vaimalofo_patchable_move.Statement.{statement}
+use Rattle.host.proofs.vaimalofo_patchable_move.Tie as tie
+
+returns : tie.Need-returns
+returns c =
+    let m = c .before .before .before in
+    let a = m .before .before .before .args in
+    asked (a .bytes .now) (a .position) (c .before .before .put .ensures)
+    (ap listed (m .patchable-mov-words .ensures) ∙ listed-packed (patchSaid (a .size) (a .value) (a .register)) (patch-short (a .size) (a .value) (a .register)))
+
+pub vaimalofo-patchable-move-spec : {M : Type 1} → statement M
+vaimalofo-patchable-move-spec = tie.close (tie.spec (search needs) (search needs) (search needs) returns)

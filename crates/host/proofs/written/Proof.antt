@@ -1,0 +1,20 @@
+-- `host::written` meets its contract. Assumes nothing.
+use native.Mathlib.Omega.{arith}
+use borrow.Author.Needs.{needs}
+use Rattle.host.proofs.written.Statement.{statement}
+use Rattle.host.proofs.written.Tie as tie
+
+sub-result : tie.Need-sub-result
+sub-result c = let h = rw (c .before .before .w .given .1) at (c .before .before .before .before .pre) in omega arith
+
+mul-result : tie.Need-mul-result
+mul-result c = let h = rw (c .before .before .w .given .1) at (c .before .before .before .before .pre) in omega arith
+
+returns : tie.Need-returns
+returns c = let h = rw (c .before .before .w .given .1) at (c .before .before .before .before .pre) in rw (c .before .before .w .given .1) (omega arith)
+
+returns-2 : tie.Need-returns-2
+returns-2 c = rw (c .before .before .w2 .given .1) (c .refused .ensures)
+
+pub written-spec : {M : Type 1} → statement M
+written-spec = tie.close (tie.spec (search needs) sub-result mul-result (search needs) (search needs) returns returns-2)

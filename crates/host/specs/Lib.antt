@@ -1,0 +1,3 @@
+-- The one number that every entry of the host answers.
+pub mod Number
+pub mod Private

@@ -1,0 +1,165 @@
+// The entries for the tool's host: numbers and runs of bytes only. Each answers one number: a refusal's number in its low byte (0: nothing was
+// refused), and in the bits above it, read as signed, the value (0 with a refusal). A position counts words; a word is four bytes, low byte
+// first; a tail under four bytes is no room.
+use displacements::DistanceAnswer;
+use logical::LogicalAnswer;
+use logical::LogicalImm;
+use words::ByteDistance;
+use words::Opc;
+use words::Refusal;
+use words::WordPos;
+use words::Worded;
+use words::Written;
+ghost use mathlib.Core.Path.{_≡_};
+ghost use Prim.Native.Nat.{_≤_};
+ghost use Rattle.words.specs.Said.{Said};
+ghost use Rattle.words.specs.Answer.{numberOf, said, made};
+ghost use Rattle.words.specs.Put.{listed, putBytesOf};
+ghost use Rattle.logical.specs.Word.{ForWord};
+ghost use Rattle.moves.specs.Moves.{movSaid, patchSaid};
+ghost use Rattle.displacements.specs.Answer.{dispSaid, targetSaid, readSaid};
+ghost use Rattle.host.specs.Number.{told, counted, hostOf, spelled, ForFields};
+ghost use Rattle.host.specs.Private.{Near};
+
+// A refusal has no value.
+fn refused(r: Refusal) -> u64
+    ensures { λ n. ⌜ n ≡ numberOf r ⌝ }
+{
+    words::number(r) as u64
+}
+
+// The number of words that a writer put from a position on, or its refusal.
+fn written(at: usize, w: Written) -> u64
+    requires { ⌜ Near at (said w) ⌝ }
+    ensures { λ n. ⌜ n ≡ told (counted at (said w)) ⌝ }
+{
+    match w {
+        Written::Done(p) => ((p.0 - at) * 256) as u64,
+        Written::No(r) => refused(r),
+    }
+}
+
+// Words by value, from a position on.
+fn put(bytes: &mut [u8], position: usize, m: Worded) -> u64
+    ensures { λ r. ⌜ (r, now (bytes .exit)) ≡ hostOf position (putBytesOf (now (bytes .entry)) position (listed (made m))) ⌝ }
+{
+    written(position, words::put_bytes(bytes, WordPos(position), m))
+}
+
+// A move of a value to a register: 2, 8.
+#[no_mangle]
+pub extern "C" fn vaimalofo_move(
+    bytes: &mut [u8],
+    position: usize,
+    register: u32,
+    value: u64,
+) -> u64
+    ensures { λ r. ⌜ (r, now (bytes .exit)) ≡ hostOf position (putBytesOf (now (bytes .entry)) position (movSaid register value)) ⌝ }
+{
+    put(bytes, position, moves::mov_words(value, register))
+}
+
+// A patchable move at a register size of 64 or 32: 1, 2, 8.
+#[no_mangle]
+pub extern "C" fn vaimalofo_patchable_move(
+    bytes: &mut [u8],
+    position: usize,
+    size: u32,
+    register: u32,
+    value: u64,
+) -> u64
+    ensures { λ r. ⌜ (r, now (bytes .exit)) ≡ hostOf position (putBytesOf (now (bytes .entry)) position (patchSaid size value register)) ⌝ }
+{
+    put(
+        bytes,
+        position,
+        moves::patchable_mov_words(size, value, register),
+    )
+}
+
+// N * 65536 + S * 256 + R, above the low byte.
+fn spelled(f: LogicalImm) -> u64
+    requires { ⌜ (f .n ≤ 1) × (f .s ≤ 63) × (f .r ≤ 63) ⌝ }
+    ensures { λ n. ⌜ n ≡ told (spelled (Said.ok f)) ⌝ }
+{
+    ((f.n * 65536 + f.s * 256 + f.r) * 256) as u64
+}
+
+// The fields that spell the low bits of a value, at width 32 or 64: 1, 3.
+#[no_mangle]
+pub extern "C" fn vaimalofo_logical_fields(width: u32, value: u64) -> u64
+    ensures { λ r. ⌜ ForFields width value (λ a. r ≡ told (spelled a)) ⌝ }
+{
+    match logical::encode_logical_imm(value, width) {
+        LogicalAnswer::Fields(f) => spelled(f),
+        LogicalAnswer::NoFields(r) => refused(r),
+    }
+}
+
+// The logical word of a value: 7, 1, 2, 3, 8.
+#[no_mangle]
+pub extern "C" fn vaimalofo_logical_word(
+    bytes: &mut [u8],
+    position: usize,
+    operation: u32,
+    width: u32,
+    rn: u32,
+    rd: u32,
+    value: u64,
+) -> u64
+    ensures { λ r. ⌜ ForWord operation width value rn rd (λ x. (r, now (bytes .exit)) ≡ hostOf position (putBytesOf (now (bytes .entry)) position x)) ⌝ }
+{
+    put(
+        bytes,
+        position,
+        logical::logical_word(operation, width, value, rn, rd),
+    )
+}
+
+// A distance in bytes into a base word at a format: 7, 6, 4, 5, 8.
+#[no_mangle]
+pub extern "C" fn vaimalofo_displacement(
+    bytes: &mut [u8],
+    position: usize,
+    format: u32,
+    base: u32,
+    distance: i64,
+) -> u64
+    ensures { λ r. ⌜ (r, now (bytes .exit)) ≡ hostOf position (putBytesOf (now (bytes .entry)) position (dispSaid format base distance)) ⌝ }
+{
+    put(
+        bytes,
+        position,
+        displacements::disp_word(format, Opc(base), ByteDistance(distance)),
+    )
+}
+
+// The same from a target and the address of the instruction: 7, 6, 4, 5, 8.
+#[no_mangle]
+pub extern "C" fn vaimalofo_displacement_to(
+    bytes: &mut [u8],
+    position: usize,
+    format: u32,
+    base: u32,
+    target: u64,
+    address: u64,
+) -> u64
+    ensures { λ r. ⌜ (r, now (bytes .exit)) ≡ hostOf position (putBytesOf (now (bytes .entry)) position (targetSaid format base target address)) ⌝ }
+{
+    put(
+        bytes,
+        position,
+        displacements::disp_target_word(format, Opc(base), target, address),
+    )
+}
+
+// The distance in bytes that a word spells at a format: 7.
+#[no_mangle]
+pub extern "C" fn vaimalofo_read_displacement(word: u32, format: u32) -> u64
+    ensures { λ r. ⌜ r ≡ told (readSaid word format) ⌝ }
+{
+    match displacements::read_disp(Opc(word), format) {
+        DistanceAnswer::Distance(d) => words::bits_of(d.0) << 8,
+        DistanceAnswer::NoDistance(r) => refused(r),
+    }
+}

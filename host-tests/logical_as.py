@@ -1,0 +1,112 @@
+#!/usr/bin/env python3
+"""Logical words against GNU as and objdump.
+
+Reads lines `OPERATION WIDTH RN RD VALUE_HEX WORD_HEX` from standard input, with `no` for the word where the value has none. GNU as must give
+the same word for the instruction, or refuse its immediate; and objdump must read the operation, the registers and the value from the word. All
+lines go through one run of each. The last line is `N passed, M failed`; the exit status is 1 if a line failed. Where the tools are
+missing it says `skipped: ..` and exits 0.
+"""
+import os
+import re
+import shutil
+import subprocess
+import sys
+import tempfile
+
+PREFIX = "aarch64-linux-gnu-"
+OPERATIONS = ["and", "orr", "eor", "ands"]
+SHOWN = 10
+
+
+def register(number, width, stack):
+    """Number 31 is the stack pointer where a logical instruction other than ANDS writes, and else the zero register."""
+    if number == 31:
+        return {(32, True): "wsp", (64, True): "sp", (32, False): "wzr", (64, False): "xzr"}[width, stack]
+    return f"{'x' if width == 64 else 'w'}{number}"
+
+
+def parse(line):
+    """The instruction's text and its word, None for `no`; or None and why there is none."""
+    parts = line.split()
+    try:
+        operation, width, rn, rd = (int(p) for p in parts[:4])
+        value, word = int(parts[4], 16), None if parts[5] == "no" else int(parts[5], 16)
+    except (ValueError, IndexError):
+        return None, "not OPERATION WIDTH RN RD VALUE_HEX WORD_HEX"
+    if len(parts) != 6 or not (0 <= operation < 4 and width in (32, 64) and 0 <= rn < 32 and 0 <= rd < 32 and 0 <= value < 2**width):
+        return None, "a number is out of range"
+    target, source = register(rd, width, operation != 3), register(rn, width, False)
+    return f"{OPERATIONS[operation]} {target}, {source}, #{value:#x}", word
+
+
+def run(tool, *words):
+    return subprocess.run([PREFIX + tool, *words], capture_output=True, text=True)
+
+
+def assemble(texts, folder):
+    """The words that GNU as gives, and its complaint for each text that it refuses."""
+    source, thing, raw = (os.path.join(folder, n) for n in ("all.s", "all.o", "all.bin"))
+    refused = {}
+    while True:
+        with open(source, "w") as f:
+            f.write("".join(("nop" if i in refused else t) + "\n" for i, t in enumerate(texts)))
+        made = run("as", "-march=armv8-a", "-o", thing, source)
+        if made.returncode == 0:
+            break
+        more = {int(n) - 1: m for n, m in re.findall(r":(\d+): Error: (.*)", made.stderr)}
+        if not more.keys() - refused.keys():
+            sys.exit("the assembler failed: " + made.stderr[:2000])
+        refused.update(more)
+    copied = run("objcopy", "-O", "binary", "-j", ".text", thing, raw)
+    if copied.returncode != 0:
+        sys.exit("objcopy failed: " + copied.stderr[:2000])
+    with open(raw, "rb") as f:
+        data = f.read()
+    return [int.from_bytes(data[i : i + 4], "little") for i in range(0, 4 * len(texts), 4)], refused
+
+
+def disassemble(words, folder):
+    """The text that objdump reads from each word, with no aliases."""
+    raw = os.path.join(folder, "words.bin")
+    with open(raw, "wb") as f:
+        f.write(b"".join(w.to_bytes(4, "little") for w in words))
+    made = run("objdump", "-D", "-z", "-b", "binary", "-m", "aarch64", "-M", "no-aliases", raw)
+    if made.returncode != 0:
+        sys.exit("objdump failed: " + made.stderr[:2000])
+    lines = re.findall(r"^\s*[0-9a-f]+:\t[0-9a-f]{8} \t(.*)$", made.stdout, re.MULTILINE)
+    return [" ".join(line.split("//")[0].split()) for line in lines]
+
+
+def main():
+    missing = [PREFIX + t for t in ("as", "objcopy", "objdump") if not shutil.which(PREFIX + t)]
+    if missing:
+        print(f"skipped: {', '.join(missing)} not found (Debian has them in the package binutils-aarch64-linux-gnu)")
+        return 0
+    lines = [l.strip() for l in sys.stdin if l.strip()]
+    asked = [parse(l) for l in lines]
+    failures = {i: why for i, (text, why) in enumerate(asked) if text is None}
+    known = [i for i in range(len(lines)) if i not in failures]
+    spelled = [i for i in known if asked[i][1] is not None]
+    with tempfile.TemporaryDirectory() as folder:
+        words, refused = assemble([asked[i][0] for i in known], folder) if known else ([], {})
+        read = dict(zip(spelled, disassemble([asked[i][1] for i in spelled], folder))) if spelled else {}
+    for k, i in enumerate(known):
+        text, word = asked[i]
+        if k in refused and word is not None:
+            failures[i] = f"GNU as refuses `{text}`: {refused[k]}"
+        elif k not in refused and words[k] != word:
+            failures[i] = f"GNU as gives {words[k]:08x} for `{text}`"
+        elif word is not None and read.get(i) != text:
+            failures[i] = f"objdump reads `{read.get(i)}` and not `{text}`"
+    for i in sorted(failures)[:SHOWN]:
+        print(f"line {i + 1}: {lines[i]}: {failures[i]}")
+    if len(failures) > SHOWN:
+        print(f".. and {len(failures) - SHOWN} more")
+    if not lines:
+        print("no line was given")
+    print(f"{len(lines) - len(failures)} passed, {len(failures) if lines else 1} failed")
+    return 1 if failures or not lines else 0
+
+
+if __name__ == "__main__":
+    sys.exit(main())

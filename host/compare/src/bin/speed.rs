@@ -1,0 +1,178 @@
+//! speed: two million mixed values, each a move written into a run of bytes and its logical fields at width 64, by the C entries, by the
+//! Rust original and by a plain Rust program of document 01's rules; the same values, registers and run, in alternating rounds.
+
+use std::fs;
+use std::hint::black_box;
+use std::time::Instant;
+
+use compare::{plain, values};
+use oracle::direct;
+use oracle::lists::random::Random;
+use vaimalofo::WordPos;
+
+/// How many values, and how many rounds of each.
+const VALUES: usize = 2_000_000;
+const ROUNDS: usize = 15;
+
+/// The value list: of each value one of the eight kinds of `values::mixed` at random, from one generator of the oracle's seed.
+fn value_list() -> Vec<u64> {
+    let mut random = Random::new(7 << 48);
+    (0..VALUES)
+        .map(|_| {
+            let kind = random.below(8);
+            values::mixed(&mut random, kind)
+        })
+        .collect()
+}
+
+/// Nanoseconds that this thread has run on a processor; where the system does not say, nanoseconds that have passed.
+fn now(began: Instant) -> u64 {
+    let text = fs::read_to_string("/proc/thread-self/schedstat").unwrap_or_default();
+    let first = text.split(' ').next().and_then(|number| number.parse().ok());
+    first.unwrap_or(began.elapsed().as_nanos() as u64)
+}
+
+fn register(i: usize) -> u32 {
+    i as u32 % 31
+}
+
+type Moves = fn(&[u64], &mut [u8]) -> usize;
+type Fields = fn(&[u64]) -> u64;
+
+/// The three sides; each writes the words of all values one behind the other, and sums up the fields.
+const SIDES: [(&str, Moves, Fields); 3] = [
+    ("the C entries", entry_moves, entry_fields),
+    ("the Rust original", original_moves, original_fields),
+    ("a plain Rust program", plain_moves, plain_fields),
+];
+
+fn entry_moves(values: &[u64], run: &mut [u8]) -> usize {
+    let mut at = WordPos(0);
+    for (i, value) in values.iter().enumerate() {
+        at = vaimalofo::mov(run, at, register(i), *value).expect("there is room");
+    }
+    at.0
+}
+
+fn entry_fields(values: &[u64]) -> u64 {
+    let mut sum = 0;
+    for value in values {
+        if let Ok(f) = vaimalofo::logical_fields(64, *value) {
+            sum += u64::from(f.n << 12 | f.s << 6 | f.r);
+        }
+    }
+    sum
+}
+
+/// Words into a run of bytes at a word position, low byte first.
+fn put(run: &mut [u8], at: usize, words: &[u32]) {
+    for (bytes, word) in run[4 * at..].chunks_exact_mut(4).zip(words) {
+        bytes.copy_from_slice(&word.to_le_bytes());
+    }
+}
+
+fn original_moves(values: &[u64], run: &mut [u8]) -> usize {
+    let mut at = 0;
+    for (i, value) in values.iter().enumerate() {
+        let mut words = [0; 4];
+        let count = direct::encode_mov_sequence64(&mut words, *value, register(i), 1);
+        put(run, at, &words[..count]);
+        at += count;
+    }
+    at
+}
+
+fn original_fields(values: &[u64]) -> u64 {
+    let mut sum = 0;
+    for value in values {
+        if let Some([n, s, r]) = direct::encode_logical_imm(*value, 64) {
+            sum += u64::from(n << 12 | s << 6 | r);
+        }
+    }
+    sum
+}
+
+fn plain_moves(values: &[u64], run: &mut [u8]) -> usize {
+    let mut at = 0;
+    for (i, value) in values.iter().enumerate() {
+        let (words, count) = plain::move_words(*value, register(i));
+        put(run, at, &words[..count]);
+        at += count;
+    }
+    at
+}
+
+fn plain_fields(values: &[u64]) -> u64 {
+    let mut sum = 0;
+    for value in values {
+        if let Some([n, s, r]) = plain::logical_fields(*value) {
+            sum += u64::from(n << 12 | s << 6 | r);
+        }
+    }
+    sum
+}
+
+/// Seconds of a call.
+fn timed(began: Instant, call: impl FnOnce()) -> f64 {
+    let start = now(began);
+    call();
+    (now(began) - start) as f64 / 1e9
+}
+
+fn median(mut seconds: Vec<f64>) -> f64 {
+    seconds.sort_by(f64::total_cmp);
+    seconds[seconds.len() / 2]
+}
+
+fn main() {
+    let began = Instant::now();
+    let values = value_list();
+    let mut run = vec![0; 16 * VALUES];
+    let mut times = vec![[vec![], vec![]]; SIDES.len()];
+    let mut totals = vec![];
+    for round in 0..ROUNDS {
+        for k in 0..SIDES.len() {
+            let side = (k + round) % SIDES.len();
+            let (_, moves, fields) = SIDES[side];
+            run.fill(0);
+            let (mut words, mut sum) = (0, 0);
+            times[side][0].push(timed(began, || words = moves(black_box(&values), &mut run)));
+            times[side][1].push(timed(began, || sum = fields(black_box(&values))));
+            totals.push((side, words, sum));
+        }
+    }
+    report(&times, &totals);
+}
+
+fn report(times: &[[Vec<f64>; 2]], totals: &[(usize, usize, u64)]) {
+    println!("{VALUES} mixed values (values::mixed, seed and stream in speed.rs), {ROUNDS} rounds in turn, one thread, processor time");
+    println!("the run of {} bytes was cleared before each round, outside of the time", 16 * VALUES);
+    let medians: Vec<[f64; 2]> = times
+        .iter()
+        .map(|[moves, fields]| [median(moves.clone()), median(fields.clone())])
+        .collect();
+    let nanoseconds = |seconds: f64| seconds * 1e9 / VALUES as f64;
+    println!("{:24} {:>12} {:>12} {:>12}", "ns a value, median of", "moves", "fields", "both");
+    for ((name, _, _), [moves, fields]) in SIDES.iter().zip(&medians) {
+        println!(
+            "{name:24} {:12.2} {:12.2} {:12.2}",
+            nanoseconds(*moves),
+            nanoseconds(*fields),
+            nanoseconds(moves + fields)
+        );
+    }
+    let [moves, fields] = medians[0];
+    for ((name, _, _), [m, f]) in SIDES.iter().zip(&medians).skip(1) {
+        println!(
+            "the C entries take {:.2} of {name} (moves {:.2}, fields {:.2})",
+            (moves + fields) / (m + f),
+            moves / m,
+            fields / f
+        );
+    }
+    for (side, (name, _, _)) in SIDES.iter().enumerate() {
+        let (_, words, sum) =
+            totals.iter().find(|total| total.0 == side).expect("each side has run");
+        println!("{name}: {words} words, fields sum {sum:x}");
+    }
+}

@@ -1,0 +1,146 @@
+//! Outside judges: words that the C entries give, handed over a pipe to scripts that ask GNU as, objdump and qemu-aarch64.
+
+use std::fmt::Write as _;
+use std::io::{ErrorKind, Write};
+use std::path::Path;
+use std::process::{Command, Stdio};
+
+use oracle::document::displacements::FORMATS;
+use oracle::document::logical::masks;
+use oracle::lists::random::Random;
+use vaimalofo::{ByteDistance, Logical, WordPos};
+
+use crate::parts::BASES;
+use crate::values;
+
+/// Lines that a script is given at a time.
+const BATCH: usize = 20_000;
+
+/// Every judge with `samples` of its kind; whether none of them found a difference.
+pub fn run(samples: usize) -> bool {
+    let moved = judged("moves_qemu.py", "moves, run under qemu-aarch64", &moves(samples));
+    let logical =
+        judged("logical_as.py", "logical words, by GNU as and objdump", &logical(samples));
+    let near = judged("displacements_as.py", "displacements, by GNU as", &displacements(samples));
+    moved && logical && near
+}
+
+/// One judge's verdict on the lines, batch by batch. A missing tool or script is said and is no failure.
+fn judged(script: &str, what: &str, lines: &[String]) -> bool {
+    let path = Path::new(env!("CARGO_MANIFEST_DIR")).join("../../host-tests").join(script);
+    println!("judges: {} {what}", lines.len());
+    if !path.exists() {
+        println!("  skipped: host-tests/{script} is not there");
+        return true;
+    }
+    lines.chunks(BATCH).all(|batch| match ask(&path, &batch.concat()) {
+        Ok((said, passed)) => {
+            said.lines().for_each(|line| println!("  {line}"));
+            passed
+        }
+        Err(why) if why.kind() == ErrorKind::NotFound => {
+            println!("  skipped: python3 is missing");
+            true
+        }
+        Err(why) => {
+            println!("  FAILED: {why}");
+            false
+        }
+    })
+}
+
+/// What a script prints about the text, and whether it ended well.
+fn ask(script: &Path, text: &str) -> std::io::Result<(String, bool)> {
+    let mut python = Command::new("python3");
+    let mut child = python.arg(script).stdin(Stdio::piped()).stdout(Stdio::piped()).spawn()?;
+    let mut input = child.stdin.take().expect("standard input is a pipe");
+    let output = std::thread::scope(|scope| {
+        scope.spawn(move || input.write_all(text.as_bytes()));
+        child.wait_with_output()
+    })?;
+    Ok((String::from_utf8_lossy(&output.stdout).into_owned(), output.status.success()))
+}
+
+/// `VALUE RD WORD..`: mixed values as moves, and every fourth as a patchable move, at 64 and 32 in turn.
+fn moves(samples: usize) -> Vec<String> {
+    let mut random = Random::new(4 << 48);
+    (0..samples as u64).map(|i| moved(&mut random, i)).collect()
+}
+
+fn moved(random: &mut Random, i: u64) -> String {
+    let (value, rd) = (values::mixed(random, i / 4), random.below(31) as u32);
+    let mut run = [0; 16];
+    let (left, end) = match i % 8 {
+        3 => (value, vaimalofo::patchable_mov(&mut run, WordPos(0), 64, rd, value)),
+        7 => (value & 0xFFFF_FFFF, vaimalofo::patchable_mov(&mut run, WordPos(0), 32, rd, value)),
+        _ => (value, vaimalofo::mov(&mut run, WordPos(0), rd, value)),
+    };
+    let mut line = format!("{left:x} {rd}");
+    let WordPos(count) = end.expect("the register is below 31 and there is room");
+    for word in &vaimalofo::words(&run)[..count] {
+        write!(line, " {word:08x}").expect("a string can be written");
+    }
+    line + "\n"
+}
+
+/// `OPERATION WIDTH RN RD VALUE WORD`: every value that has fields, at both widths, then mixed values.
+fn logical(samples: usize) -> Vec<String> {
+    let mut random = Random::new(5 << 48);
+    let mut asked: Vec<(u32, u64)> = Vec::new();
+    for width in [32, 64] {
+        let mut all: Vec<u64> = masks(width).keys().copied().collect();
+        all.sort_unstable();
+        asked.extend(all.into_iter().map(|value| (width, value)));
+    }
+    asked.extend((0..samples as u64).map(|i| {
+        let value = values::mixed(&mut random, i / 2);
+        if i % 2 == 0 {
+            (64, value)
+        } else {
+            (32, value & 0xFFFF_FFFF)
+        }
+    }));
+    asked.into_iter().map(|(width, value)| logical_line(&mut random, width, value)).collect()
+}
+
+fn logical_line(random: &mut Random, width: u32, value: u64) -> String {
+    let [operation, rn, rd] = [4, 32, 32].map(|n| random.below(n) as u32);
+    let mut run = [0; 4];
+    let instruction = Logical { operation, width, rn, rd };
+    let word = match vaimalofo::logical_word(&mut run, WordPos(0), instruction, value) {
+        Ok(_) => format!("{:08x}", vaimalofo::words(&run)[0]),
+        Err(_) => "no".to_string(),
+    };
+    format!("{operation} {width} {rn} {rd} {value:x} {word}\n")
+}
+
+/// `FORMAT BASE DISTANCE WORD`: the ends of each format, then distances in its range.
+fn displacements(samples: usize) -> Vec<String> {
+    let mut random = Random::new(6 << 48);
+    let mut lines = Vec::new();
+    for i in 0..samples {
+        let (format, row) = (i % 6, &FORMATS[i % 6]);
+        let steps = (row.greatest - row.least) / row.step;
+        let step = match i / 6 {
+            0 => 0,
+            1 => steps,
+            _ => random.below(steps as u64 + 1) as i64,
+        };
+        lines.push(displaced(&mut random, format, row.least + step * row.step));
+    }
+    lines
+}
+
+fn displaced(random: &mut Random, format: usize, distance: i64) -> String {
+    let low = match format {
+        0 => 0,
+        1 => random.below(16) as u32,
+        _ => random.below(32) as u32,
+    };
+    let base = random.one_of(BASES[format]) + low;
+    let mut run = [0; 4];
+    let at = ByteDistance(distance);
+    vaimalofo::displacement(&mut run, WordPos(0), format as u32, base, at)
+        .expect("the distance is in range and the field is clear");
+    format!("{format} {base:08x} {distance} {:08x}\n", vaimalofo::words(&run)[0])
+}

@@ -1,0 +1,296 @@
+//! The parts of the comparison.
+
+use oracle::document::displacements::FORMATS;
+use oracle::document::{logical, moves, No};
+use oracle::lists::random::Random;
+use oracle::replay::classes::Class;
+use oracle::replay::request::{entry::*, Request};
+use oracle::rust;
+use vaimalofo::{Fields, WordPos};
+
+use crate::calls::compare;
+use crate::tally::Tally;
+use crate::values;
+use crate::work::Part;
+
+/// The items that leave `rest` when their number is divided by `by`; `by` is odd, so that a slice has all low bits in it.
+#[derive(Clone, Copy)]
+pub struct Slice {
+    pub rest: u64,
+    pub by: u64,
+}
+
+impl Slice {
+    /// How many of the items below `all` are in the slice.
+    fn count(self, all: u64) -> u64 {
+        (all + self.by - 1 - self.rest) / self.by
+    }
+
+    fn item(self, i: u64) -> u64 {
+        self.rest + i * self.by
+    }
+
+    fn text(self) -> String {
+        match self.by {
+            1 => "all".to_string(),
+            by => format!("those that leave {} when divided by {by}, of", self.rest),
+        }
+    }
+}
+
+/// A generator for one item of a part.
+fn random(part: u64, item: u64) -> Random {
+    Random::new((part << 48) + item)
+}
+
+// ---- all values of 32 bits
+
+/// Logical fields at width 32.
+pub fn fields_32(slice: Slice) -> Part {
+    Part {
+        name: "fields",
+        what: format!("logical fields at width 32 of {} 2^32 values", slice.text()),
+        items: slice.count(1 << 32),
+        check: Box::new(move |i, tally| fields_of(slice.item(i), tally)),
+    }
+}
+
+fn fields_of(value: u64, tally: &mut Tally) {
+    let entry = vaimalofo::logical_fields(32, value).map(|Fields { n, s, r }| [n, s, r]);
+    let document = logical::encode_logical_imm(value, 32);
+    let original = rust::encode_logical_imm(value, 32);
+    let agree = match (entry, document) {
+        (Ok(entry), Ok(document)) => entry == document && original == Ok(Some(entry)),
+        (Err(refusal), Err(No(3))) => refusal.number() == 3 && original == Ok(None),
+        _ => false,
+    };
+    match agree {
+        true => tally.same += 1,
+        false => tally.fails(|| format!("fields at 32 of {value:x}: {entry:?}, document 01 {document:?}, the Rust {original:?}")),
+    }
+}
+
+/// Moves of values up to FFFFFFFF. The register and the position go with the value.
+pub fn moves_32(slice: Slice) -> Part {
+    Part {
+        name: "moves",
+        what: format!("moves of {} 2^32 values up to FFFFFFFF", slice.text()),
+        items: slice.count(1 << 32),
+        check: Box::new(move |i, tally| move_of(slice.item(i), tally)),
+    }
+}
+
+/// A run of five words and a tail of two bytes, whose every byte is watched.
+const RUN: [u8; 22] = [0xA7; 22];
+
+fn move_of(value: u64, tally: &mut Tally) {
+    let mixed = (value as u32).wrapping_mul(0x9E37_79B1);
+    let (rd, position) = ((mixed >> 8) % 31, (mixed >> 28) as usize % 4);
+    let document = moves::move_words(value, rd).expect("the register is below 31");
+    let mut expected = RUN;
+    for (word, bytes) in document.iter().zip(expected[4 * position..].chunks_exact_mut(4)) {
+        bytes.copy_from_slice(&word.to_le_bytes());
+    }
+    let mut run = RUN;
+    let answer = vaimalofo::mov(&mut run, WordPos(position), rd, value);
+    if answer != Ok(WordPos(position + document.len())) || run != expected {
+        return tally.fails(|| {
+            format!("move of {value:x} to {rd}: {answer:?} {run:x?}, document 01 {document:x?}")
+        });
+    }
+    let original = rust::encode_mov_sequence64(value, rd, 1);
+    if original == document {
+        tally.same += 1;
+    } else if original.len() == 1 && document.len() == 1 && original[0] == document[0] | 1 << 31 {
+        tally.differs(Class::MovnUpperHalf);
+    } else {
+        tally.fails(|| {
+            format!("move of {value:x} to {rd}: the Rust {original:x?}, document 01 {document:x?}")
+        });
+    }
+}
+
+// ---- distances
+
+/// How far beyond both ends of a format's range distances are asked, in steps.
+const BEYOND: i64 = 16;
+
+/// The distances asked of a format are this far apart: every one of formats 1, 2, 3 and 5.
+const STRIDES: [i64; 6] = [29, 1, 1, 1, 1024, 1];
+
+/// Base words of each format, registers and conditions left 0.
+pub const BASES: [&[u32]; 6] = [
+    &[0x1400_0000, 0x9400_0000],
+    &[0x5400_0000, 0x3400_0000, 0xB500_0000],
+    &[0x3600_0000, 0xB700_0000],
+    &[0x1000_0000],
+    &[0x9000_0000],
+    &[0x1800_0000, 0x5800_0000, 0x9800_0000, 0xD800_0000, 0x1C00_0000, 0x5C00_0000, 0x9C00_0000],
+];
+
+/// The first distance of a format, and how many are asked.
+fn span(format: usize) -> (i64, u64) {
+    let row = &FORMATS[format];
+    let first = row.least - BEYOND * row.step;
+    let past = row.greatest + (BEYOND + 1) * row.step;
+    (first, ((past - first) / STRIDES[format]) as u64)
+}
+
+/// Distances around the ends of each format's range and around 0: they are asked in every slice.
+fn ends() -> Vec<(usize, i64)> {
+    let around = |(format, end, step)| (-4..=4).map(move |k: i64| (format, end + k * step));
+    let rows = FORMATS.iter().enumerate();
+    rows.flat_map(|(format, row)| [row.least, 0, row.greatest].map(|end| (format, end, row.step)))
+        .flat_map(around)
+        .collect()
+}
+
+/// Distances into words, targets into words, and words read.
+pub fn displacements(slice: Slice) -> Part {
+    let (all, ends) = ((0..6).map(|format| span(format).1).sum(), ends());
+    let first = ends.len() as u64;
+    Part {
+        name: "displacements",
+        what: format!(
+            "{} {all} distances: every one of formats 1, 2, 3 and 5, every 29th of 0, every 1024th of 4, to 16 steps beyond; each by distance, by target, and read",
+            slice.text()
+        ),
+        items: first + slice.count(all),
+        check: Box::new(move |i, tally| {
+            let mut random = random(1, i);
+            let (format, distance) = match ends.get(i as usize) {
+                Some(end) => *end,
+                None => distance_of(slice.item(i - first)),
+            };
+            check_distance(format, distance, &mut random, tally);
+        }),
+    }
+}
+
+/// The format and the distance of an item.
+fn distance_of(mut item: u64) -> (usize, i64) {
+    for (format, stride) in STRIDES.iter().enumerate() {
+        let (first, count) = span(format);
+        if item < count {
+            return (format, first + item as i64 * stride);
+        }
+        item -= count;
+    }
+    unreachable!("there are no more items than distances")
+}
+
+/// A base word: one of the format's, with any register or condition; now and then any word.
+fn base(format: usize, random: &mut Random) -> u64 {
+    match random.below(16) {
+        0 => random.value() as u32 as u64,
+        _ if format == 0 => random.one_of(BASES[0]).into(),
+        _ => {
+            u64::from(random.one_of(BASES[format]))
+                + random.below(if format == 1 { 16 } else { 32 })
+        }
+    }
+}
+
+fn check_distance(format: usize, distance: i64, random: &mut Random, tally: &mut Tally) {
+    let (number, base) = (format as u64, base(format, random));
+    let tail = random.below(4) as usize;
+    compare(&Request::new(DISP_IMM, &[number, base, distance as u64, 2, 1]), tail, tally);
+    // The Rust's buffer has an offset of 32 bits; a higher address is compared with document 01 alone.
+    let address = random.value() >> random.one_of(&[0, 32, 44]);
+    let origin = if format == 4 { address & !0xFFF } else { address };
+    let target = origin.wrapping_add_signed(distance);
+    compare(&Request::new(DISP_TARGET, &[number, base, target, address, 1, 0]), tail, tally);
+    let mut run = [0; 4];
+    let at = vaimalofo::ByteDistance(distance);
+    let word = match vaimalofo::displacement(&mut run, WordPos(0), number as u32, base as u32, at) {
+        Ok(_) => vaimalofo::words(&run)[0],
+        Err(_) => random.value() as u32,
+    };
+    compare(&Request::new(READ_DISP, &[word.into(), number]), 0, tally);
+}
+
+// ---- mixed values
+
+/// Mixed values of 64 bits: a move, fields at both widths, a logical word and a patchable move of each.
+pub fn mixed(count: u64) -> Part {
+    Part {
+        name: "mixed",
+        what: format!("{count} mixed 64-bit values: each a move, fields at 64 and 32, a logical word, a patchable move"),
+        items: count,
+        check: Box::new(mixed_item),
+    }
+}
+
+fn mixed_item(item: u64, tally: &mut Tally) {
+    let mut random = random(2, item);
+    let value = values::mixed(&mut random, item);
+    let (rd, rn) = (random.below(31), random.below(32));
+    let (operation, width) = (random.below(4), random.one_of(&[32, 64]));
+    let (position, tail) = (random.below(5), random.below(4) as usize);
+    compare(&Request::new(MOVE, &[value, rd, 8, position]), tail, tally);
+    compare(&Request::new(ENCODE_LOGICAL, &[value, 64]), tail, tally);
+    compare(&Request::new(ENCODE_LOGICAL, &[value, 32]), tail, tally);
+    compare(
+        &Request::new(LOGICAL_WORD, &[operation, width, value, rn, rd, 8, position]),
+        tail,
+        tally,
+    );
+    compare(&Request::new(PATCHABLE_MOVE, &[width, value, rd, 8, position]), tail, tally);
+}
+
+// ---- damaged calls
+
+/// Calls with wrong widths, registers, formats, operations, positions and short runs.
+pub fn damaged(count: u64) -> Part {
+    Part {
+        name: "damaged",
+        what: format!("{count} damaged calls of all entries: wrong widths, registers, formats, operations, positions, short runs"),
+        items: count,
+        check: Box::new(damaged_item),
+    }
+}
+
+fn damaged_item(item: u64, tally: &mut Tally) {
+    let mut random = random(3, item);
+    let r = &mut random;
+    let value = values::mixed(r, item / 7);
+    let (length, tail) = (r.below(9), r.below(4) as usize);
+    let position = match r.below(4) {
+        0 => r.value(),
+        1 => (r.below(3)).wrapping_sub(2),
+        _ => r.below(length + 2),
+    };
+    let width = one_in_two(r, &[32, 64]);
+    let (format, operation) = (one_in_two(r, &[0, 1, 2, 3, 4, 5]), one_in_two(r, &[0, 1, 2, 3]));
+    let (rn, rd) = (one_in_two(r, &[0, 30, 31, 32]), one_in_two(r, &[0, 30, 31, 32]));
+    let base = base(format as usize % 6, r);
+    let request = match item % 7 {
+        0 => Request::new(MOVE, &[value, rd, length, position]),
+        1 => Request::new(PATCHABLE_MOVE, &[width, value, rd, length, position]),
+        2 => Request::new(ENCODE_LOGICAL, &[value, width]),
+        3 => Request::new(LOGICAL_WORD, &[operation, width, value, rn, rd, length, position]),
+        4 => Request::new(DISP_IMM, &[format, base, near(value, r), length, position]),
+        5 => Request::new(
+            DISP_TARGET,
+            &[format, base, near(value, r), r.value() >> 32, length, position],
+        ),
+        _ => Request::new(READ_DISP, &[value & 0xFFFF_FFFF, format]),
+    };
+    compare(&request, tail, tally);
+}
+
+/// One of the numbers given, or one that is small, next to a power of two, or any of 32 bits.
+fn one_in_two(random: &mut Random, given: &[u64]) -> u64 {
+    match random.below(2) {
+        0 => random.one_of(given),
+        _ => random.number(),
+    }
+}
+
+/// A distance: the value, or a small one of either sign.
+fn near(value: u64, random: &mut Random) -> u64 {
+    match random.below(2) {
+        0 => value,
+        _ => (value as i64 >> random.below(64)) as u64,
+    }
+}

@@ -1,0 +1,87 @@
+/*
+ * Vaimalofo: A64 machine words from proved encoders. Link the static library that `rt staticlib host` writes (docs/HOST.md).
+ *
+ * A run is a pointer to bytes and their number. The pointer is not NULL, also where the number is 0, and during a call nothing else
+ * uses the bytes. In a run a word is four bytes, low byte first, and a tail under four bytes is no room. A position counts words.
+ *
+ * Every entry answers one 64-bit number. Its low byte is a refusal's number, 0 where nothing was refused; the bits above it, read as
+ * signed, are the value, 0 with a refusal. Any numbers may be asked. With a refusal no byte of the run has changed; else the words
+ * asked for stand from the position on, and every other byte is as before.
+ */
+#ifndef VAIMALOFO_H
+#define VAIMALOFO_H
+
+#include <stddef.h>
+#include <stdint.h>
+
+#ifdef __cplusplus
+extern "C" {
+#endif
+
+/* Refusals. Where several apply, an entry gives the first of the order that stands beside it. */
+enum {
+    VAIMALOFO_WIDTH = 1,    /* the width or register size is not one that the entry names */
+    VAIMALOFO_REGISTER = 2, /* a register number above 30 (moves) or above 31 (logical words) */
+    VAIMALOFO_NO_FIELD = 3, /* no field spells the value */
+    VAIMALOFO_STEP = 4,     /* the distance is not a multiple of the format's step */
+    VAIMALOFO_RANGE = 5,    /* the distance is outside the format's range */
+    VAIMALOFO_TAKEN = 6,    /* the base word already has a bit set in the field */
+    VAIMALOFO_UNKNOWN = 7,  /* an unknown format or operation number */
+    VAIMALOFO_NO_ROOM = 8   /* the words do not fit from the position on, or the position lies past the end */
+};
+
+/* Displacement formats. */
+enum {
+    VAIMALOFO_BRANCH_26 = 0, /* B, BL */
+    VAIMALOFO_BRANCH_19 = 1, /* B.cond, CBZ, CBNZ */
+    VAIMALOFO_BRANCH_14 = 2, /* TBZ, TBNZ */
+    VAIMALOFO_ADR_21 = 3,
+    VAIMALOFO_ADRP_21 = 4,
+    VAIMALOFO_LDR_19 = 5 /* LDR (literal) */
+};
+
+/* Logical operations. */
+enum { VAIMALOFO_AND = 0, VAIMALOFO_ORR = 1, VAIMALOFO_EOR = 2, VAIMALOFO_ANDS = 3 };
+
+/* The refusal of an answer: 0 where nothing was refused. */
+static inline unsigned vaimalofo_refusal(uint64_t answer) {
+    return (unsigned)(answer & 0xFF);
+}
+
+/* The value of an answer. */
+static inline int64_t vaimalofo_value(uint64_t answer) {
+    uint64_t above = answer >> 8;
+    return above < (UINT64_C(1) << 55) ? (int64_t)above : -(int64_t)((UINT64_C(1) << 56) - above);
+}
+
+/* A move of a value to a register, 1 to 4 words. Order 2, 8. Value: the number of words. */
+uint64_t vaimalofo_move(uint8_t *bytes, size_t length, size_t position, uint32_t reg, uint64_t value);
+
+/* A move that can be patched: four words at size 64, two at 32, of the low 32 bits. Order 1, 2, 8. Value: the number of words. */
+uint64_t vaimalofo_patchable_move(uint8_t *bytes, size_t length, size_t position, uint32_t size, uint32_t reg,
+                                  uint64_t value);
+
+/* The fields of a logical immediate at width 32 or 64. Order 1, 3. Value: N * 65536 + S * 256 + R. */
+uint64_t vaimalofo_logical_fields(uint32_t width, uint64_t value);
+
+/* AND, ORR, EOR or ANDS with an immediate. Order 7, 1, 2, 3, 8. Value: the number of words, 1. */
+uint64_t vaimalofo_logical_word(uint8_t *bytes, size_t length, size_t position, uint32_t operation, uint32_t width,
+                                uint32_t rn, uint32_t rd, uint64_t value);
+
+/* A base word with a distance in bytes in the field of a format. Order 7, 6, 4, 5, 8. Value: the number of words, 1. */
+uint64_t vaimalofo_displacement(uint8_t *bytes, size_t length, size_t position, uint32_t format, uint32_t base,
+                                int64_t distance);
+
+/* The same from a target and the address of the instruction: target minus address, modulo 2^64 and read as signed; for ADRP the
+ * address first loses its low 12 bits. Order 7, 6, 4, 5, 8. Value: the number of words, 1. */
+uint64_t vaimalofo_displacement_to(uint8_t *bytes, size_t length, size_t position, uint32_t format, uint32_t base,
+                                   uint64_t target, uint64_t address);
+
+/* The distance that any word spells at a format. Order 7. Value: the distance in bytes. */
+uint64_t vaimalofo_read_displacement(uint32_t word, uint32_t format);
+
+#ifdef __cplusplus
+}
+#endif
+
+#endif

@@ -1,0 +1,120 @@
+//! The C entries, and the only `unsafe` lines of the package. An entry answers whatever the numbers are, touches no byte outside of
+//! the run, and keeps neither its pointer nor its length: a pointer and a length that come from one slice are all that a call asks.
+
+extern "C" {
+    fn vaimalofo_move(
+        bytes: *mut u8,
+        length: usize,
+        position: usize,
+        register: u32,
+        value: u64,
+    ) -> u64;
+    fn vaimalofo_patchable_move(
+        bytes: *mut u8,
+        length: usize,
+        position: usize,
+        size: u32,
+        register: u32,
+        value: u64,
+    ) -> u64;
+    fn vaimalofo_logical_fields(width: u32, value: u64) -> u64;
+    fn vaimalofo_logical_word(
+        bytes: *mut u8,
+        length: usize,
+        position: usize,
+        operation: u32,
+        width: u32,
+        rn: u32,
+        rd: u32,
+        value: u64,
+    ) -> u64;
+    fn vaimalofo_displacement(
+        bytes: *mut u8,
+        length: usize,
+        position: usize,
+        format: u32,
+        base: u32,
+        distance: i64,
+    ) -> u64;
+    fn vaimalofo_displacement_to(
+        bytes: *mut u8,
+        length: usize,
+        position: usize,
+        format: u32,
+        base: u32,
+        target: u64,
+        address: u64,
+    ) -> u64;
+    fn vaimalofo_read_displacement(word: u32, format: u32) -> u64;
+}
+
+#[inline]
+pub fn mov(bytes: &mut [u8], position: usize, register: u32, value: u64) -> u64 {
+    // SAFETY: pointer and length are the slice's, lent for the call.
+    unsafe { vaimalofo_move(bytes.as_mut_ptr(), bytes.len(), position, register, value) }
+}
+
+#[inline]
+pub fn patchable_mov(
+    bytes: &mut [u8],
+    position: usize,
+    size: u32,
+    register: u32,
+    value: u64,
+) -> u64 {
+    let (start, length) = (bytes.as_mut_ptr(), bytes.len());
+    // SAFETY: pointer and length are the slice's, lent for the call.
+    unsafe { vaimalofo_patchable_move(start, length, position, size, register, value) }
+}
+
+#[inline]
+pub fn logical_fields(width: u32, value: u64) -> u64 {
+    // SAFETY: numbers alone.
+    unsafe { vaimalofo_logical_fields(width, value) }
+}
+
+#[inline]
+pub fn logical_word(
+    bytes: &mut [u8],
+    position: usize,
+    (operation, width): (u32, u32),
+    (rn, rd): (u32, u32),
+    value: u64,
+) -> u64 {
+    let (start, length) = (bytes.as_mut_ptr(), bytes.len());
+    // SAFETY: pointer and length are the slice's, lent for the call.
+    unsafe { vaimalofo_logical_word(start, length, position, operation, width, rn, rd, value) }
+}
+
+#[inline]
+pub fn displacement(
+    bytes: &mut [u8],
+    position: usize,
+    format: u32,
+    base: u32,
+    distance: i64,
+) -> u64 {
+    let (start, length) = (bytes.as_mut_ptr(), bytes.len());
+    // SAFETY: pointer and length are the slice's, lent for the call.
+    unsafe { vaimalofo_displacement(start, length, position, format, base, distance) }
+}
+
+#[inline]
+pub fn displacement_to(
+    bytes: &mut [u8],
+    position: usize,
+    format: u32,
+    base: u32,
+    target: u64,
+    address: u64,
+) -> u64 {
+    let (start, length) = (bytes.as_mut_ptr(), bytes.len());
+    // SAFETY: pointer and length are the slice's, lent for the call.
+    unsafe { vaimalofo_displacement_to(start, length, position, format, base, target, address) }
+}
+
+#[inline]
+pub fn read_displacement(word: u32, format: u32) -> u64 {
+    // SAFETY: numbers alone.
+    unsafe { vaimalofo_read_displacement(word, format) }
+}

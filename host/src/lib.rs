@@ -1,0 +1,281 @@
+//! A64 (AArch64) machine words from proved encoders: moves of 64-bit values, logical immediates, and the displacements of branches,
+//! ADR, ADRP and LDR (literal).
+//!
+//! Every function calls an entry of a static library in which each function is proved to meet its contract; this package is the safe
+//! Rust around it. An answer is a value or a [`Refusal`], whatever the numbers are, and a refusal leaves every lent byte as it was.
+//!
+//! Words go to a lent run of bytes: a word is four bytes, low byte first, and a tail under four bytes is no room. A [`WordPos`] counts
+//! words in it, and a function that writes answers the position just past its last word, from which the next one can go on:
+//!
+//! ```
+//! use vaimalofo::{displacement, format, mov, ByteDistance, WordPos};
+//!
+//! let mut code = [0; 16];
+//! let at = mov(&mut code, WordPos(0), 0, 0x12345678)?;
+//! let at = displacement(&mut code, at, format::BRANCH_26, 0x14000000, ByteDistance(-8))?;
+//! assert_eq!(at, WordPos(3));
+//! assert_eq!(vaimalofo::words(&code[..12]), [0xD28ACF00, 0xF2A24680, 0x17FFFFFE]);
+//! # Ok::<(), vaimalofo::Refusal>(())
+//! ```
+
+#![deny(unsafe_code)]
+#![warn(missing_docs)]
+
+#[allow(unsafe_code)]
+mod ffi;
+mod refusal;
+
+pub use refusal::Refusal;
+
+/// A place in a run, counted in words of four bytes.
+#[derive(Clone, Copy, Debug, PartialEq, Eq, PartialOrd, Ord, Hash)]
+pub struct WordPos(pub usize);
+
+/// A signed distance in bytes.
+#[derive(Clone, Copy, Debug, PartialEq, Eq, PartialOrd, Ord, Hash)]
+pub struct ByteDistance(pub i64);
+
+/// The fields N, S and R of a logical immediate.
+#[derive(Clone, Copy, Debug, PartialEq, Eq, Hash)]
+pub struct Fields {
+    /// 1 only for an element of 64 bits.
+    pub n: u32,
+    /// The length of the run less 1, below a prefix that tells the element's length.
+    pub s: u32,
+    /// How far the run is turned to the right; below the element's length.
+    pub r: u32,
+}
+
+/// The numbers of the displacement formats.
+pub mod format {
+    /// B and BL: 26 bits at bit 0, in steps of 4.
+    pub const BRANCH_26: u32 = 0;
+    /// B.cond, CBZ and CBNZ: 19 bits at bit 5, in steps of 4.
+    pub const BRANCH_19: u32 = 1;
+    /// TBZ and TBNZ: 14 bits at bit 5, in steps of 4.
+    pub const BRANCH_14: u32 = 2;
+    /// ADR: 21 bits, the low 2 at bit 29 and the rest at bit 5.
+    pub const ADR_21: u32 = 3;
+    /// ADRP: 21 bits as for ADR, in steps of 4096.
+    pub const ADRP_21: u32 = 4;
+    /// LDR (literal): 19 bits at bit 5, in steps of 4.
+    pub const LDR_19: u32 = 5;
+}
+
+/// The numbers of the logical operations.
+pub mod operation {
+    /// AND.
+    pub const AND: u32 = 0;
+    /// ORR.
+    pub const ORR: u32 = 1;
+    /// EOR.
+    pub const EOR: u32 = 2;
+    /// ANDS.
+    pub const ANDS: u32 = 3;
+}
+
+/// What the one number of an entry says: its low byte a refusal's number, the bits above it the value, read as signed.
+#[inline]
+fn answer(number: u64) -> Result<i64, Refusal> {
+    match number as u8 {
+        0 => Ok(number as i64 >> 8),
+        refusal => {
+            Err(Refusal::from_number(refusal).expect("the entries give document 01's numbers"))
+        }
+    }
+}
+
+/// The position after as many words as an entry says that it has written.
+#[inline]
+fn after(position: WordPos, number: u64) -> Result<WordPos, Refusal> {
+    Ok(WordPos(position.0 + answer(number)? as usize))
+}
+
+/// Writes the 1 to 4 words that move a value to a register (MOVZ, MOVN and MOVK), the same ones as asmkit's `encode_mov_sequence64`
+/// where those are right.
+///
+/// # Errors
+/// [`Refusal::Register`] for a register above 30, then [`Refusal::NoRoom`].
+///
+/// ```
+/// use vaimalofo::{mov, words, Refusal, WordPos};
+///
+/// let mut code = [0; 8];
+/// assert_eq!(mov(&mut code, WordPos(0), 1, 0xFFFFFFFE), Ok(WordPos(1)));
+/// assert_eq!(words(&code), [0x12800021, 0]);
+/// assert_eq!(mov(&mut code, WordPos(1), 0, 0x12345678), Err(Refusal::NoRoom));
+/// assert_eq!(mov(&mut code, WordPos(0), 31, 0), Err(Refusal::Register));
+/// ```
+#[inline]
+pub fn mov(
+    bytes: &mut [u8],
+    position: WordPos,
+    register: u32,
+    value: u64,
+) -> Result<WordPos, Refusal> {
+    after(position, ffi::mov(bytes, position.0, register, value))
+}
+
+/// Writes a move whose value can be patched later: always four words at a register size of 64, two at 32, where only the low 32 bits
+/// of the value count.
+///
+/// # Errors
+/// [`Refusal::Width`] for another size, [`Refusal::Register`] for a register above 30, then [`Refusal::NoRoom`].
+///
+/// ```
+/// use vaimalofo::{patchable_mov, words, Refusal, WordPos};
+///
+/// let mut code = [0; 8];
+/// assert_eq!(patchable_mov(&mut code, WordPos(0), 32, 2, 7), Ok(WordPos(2)));
+/// assert_eq!(words(&code), [0x528000E2, 0x72A00002]);
+/// assert_eq!(patchable_mov(&mut code, WordPos(0), 64, 2, 7), Err(Refusal::NoRoom));
+/// assert_eq!(patchable_mov(&mut code, WordPos(0), 16, 2, 7), Err(Refusal::Width));
+/// ```
+#[inline]
+pub fn patchable_mov(
+    bytes: &mut [u8],
+    position: WordPos,
+    size: u32,
+    register: u32,
+    value: u64,
+) -> Result<WordPos, Refusal> {
+    after(position, ffi::patchable_mov(bytes, position.0, size, register, value))
+}
+
+/// The fields that spell a value as a logical immediate at width 32 or 64; width 32 ignores the higher bits.
+///
+/// # Errors
+/// [`Refusal::Width`] for another width, [`Refusal::NoField`] where no fields decode to the value.
+///
+/// ```
+/// use vaimalofo::{logical_fields, Fields, Refusal};
+///
+/// assert_eq!(logical_fields(64, 0xFF), Ok(Fields { n: 1, s: 7, r: 0 }));
+/// assert_eq!(logical_fields(32, 0x1000000FF), Ok(Fields { n: 0, s: 7, r: 0 }));
+/// assert_eq!(logical_fields(64, 5), Err(Refusal::NoField));
+/// assert_eq!(logical_fields(16, 5), Err(Refusal::Width));
+/// ```
+#[inline]
+pub fn logical_fields(width: u32, value: u64) -> Result<Fields, Refusal> {
+    let fields = answer(ffi::logical_fields(width, value))? as u32;
+    Ok(Fields { n: fields >> 16, s: fields >> 8 & 0xFF, r: fields & 0xFF })
+}
+
+/// A logical instruction with an immediate: which one, at which width, on which registers.
+#[derive(Clone, Copy, Debug, PartialEq, Eq, Hash)]
+pub struct Logical {
+    /// A number of [`operation`].
+    pub operation: u32,
+    /// 32 or 64.
+    pub width: u32,
+    /// The register that is read, up to 31.
+    pub rn: u32,
+    /// The register that is written, up to 31.
+    pub rd: u32,
+}
+
+/// Writes the word of AND, ORR, EOR or ANDS with a value as its immediate.
+///
+/// # Errors
+/// [`Refusal::Unknown`] for an operation above 3, [`Refusal::Width`] for a width that is not 32 or 64, [`Refusal::Register`] for a
+/// register above 31, [`Refusal::NoField`] where no fields spell the value, then [`Refusal::NoRoom`].
+///
+/// ```
+/// use vaimalofo::{logical_word, operation, words, Logical, Refusal, WordPos};
+///
+/// let and = Logical { operation: operation::AND, width: 64, rn: 1, rd: 0 };
+/// let mut code = [0; 4];
+/// assert_eq!(logical_word(&mut code, WordPos(0), and, 0xFF), Ok(WordPos(1)));
+/// assert_eq!(words(&code), [0x92401C20]);
+/// assert_eq!(logical_word(&mut code, WordPos(0), and, 5), Err(Refusal::NoField));
+/// assert_eq!(logical_word(&mut code, WordPos(1), and, 0xFF), Err(Refusal::NoRoom));
+/// ```
+#[inline]
+pub fn logical_word(
+    bytes: &mut [u8],
+    position: WordPos,
+    instruction: Logical,
+    value: u64,
+) -> Result<WordPos, Refusal> {
+    let Logical { operation, width, rn, rd } = instruction;
+    after(position, ffi::logical_word(bytes, position.0, (operation, width), (rn, rd), value))
+}
+
+/// Writes a base word with a distance placed in the field of a [`format`]. The distance counts from the instruction; for ADRP, from
+/// its page.
+///
+/// # Errors
+/// [`Refusal::Unknown`] for a format above 5, [`Refusal::Taken`] where the base has a bit set in the field, [`Refusal::Step`],
+/// [`Refusal::Range`], then [`Refusal::NoRoom`].
+///
+/// ```
+/// use vaimalofo::{displacement, format, words, ByteDistance, Refusal, WordPos};
+///
+/// let mut code = [0; 4];
+/// let far = ByteDistance(134217728);
+/// assert_eq!(displacement(&mut code, WordPos(0), format::LDR_19, 0x58000000, ByteDistance(8)), Ok(WordPos(1)));
+/// assert_eq!(words(&code), [0x58000040]);
+/// assert_eq!(displacement(&mut code, WordPos(0), format::BRANCH_26, 0x14000000, far), Err(Refusal::Range));
+/// ```
+#[inline]
+pub fn displacement(
+    bytes: &mut [u8],
+    position: WordPos,
+    format: u32,
+    base: u32,
+    distance: ByteDistance,
+) -> Result<WordPos, Refusal> {
+    after(position, ffi::displacement(bytes, position.0, format, base, distance.0))
+}
+
+/// The same from a target and the address of the instruction: the distance is target minus address, modulo 2^64 and read as signed.
+/// For ADRP the address first loses its low 12 bits, and the target must be on a page.
+///
+/// # Errors
+/// Those of [`displacement`], in the same order.
+///
+/// ```
+/// use vaimalofo::{displacement_to, format, words, Refusal, WordPos};
+///
+/// let mut code = [0; 4];
+/// assert_eq!(displacement_to(&mut code, WordPos(0), format::ADRP_21, 0x90000000, 0x3000, 0x1234), Ok(WordPos(1)));
+/// assert_eq!(words(&code), [0xD0000000]);
+/// assert_eq!(displacement_to(&mut code, WordPos(0), format::ADRP_21, 0x90000000, 0x3004, 0x1234), Err(Refusal::Step));
+/// ```
+#[inline]
+pub fn displacement_to(
+    bytes: &mut [u8],
+    position: WordPos,
+    format: u32,
+    base: u32,
+    target: u64,
+    address: u64,
+) -> Result<WordPos, Refusal> {
+    after(position, ffi::displacement_to(bytes, position.0, format, base, target, address))
+}
+
+/// The distance that a word spells at a [`format`], as Arm reads it.
+///
+/// # Errors
+/// [`Refusal::Unknown`] for a format above 5.
+///
+/// ```
+/// use vaimalofo::{format, read_displacement, ByteDistance, Refusal};
+///
+/// assert_eq!(read_displacement(0x17FFFFFF, format::BRANCH_26), Ok(ByteDistance(-4)));
+/// assert_eq!(read_displacement(0x17FFFFFF, 6), Err(Refusal::Unknown));
+/// ```
+#[inline]
+pub fn read_displacement(word: u32, format: u32) -> Result<ByteDistance, Refusal> {
+    answer(ffi::read_displacement(word, format)).map(ByteDistance)
+}
+
+/// The whole words of a run of bytes; a tail under four bytes is left out.
+///
+/// ```
+/// assert_eq!(vaimalofo::words(&[0x20, 0, 0, 0xD2, 0xFF]), [0xD2000020]);
+/// ```
+pub fn words(bytes: &[u8]) -> Vec<u32> {
+    let word = |four: &[u8]| u32::from_le_bytes([four[0], four[1], four[2], four[3]]);
+    bytes.chunks_exact(4).map(word).collect()
+}

@@ -1,0 +1,97 @@
+use std::error::Error;
+use std::fmt;
+
+/// Why a request was turned down. Nothing that was lent has then changed.
+///
+/// It prints as its number and the event:
+///
+/// ```
+/// use vaimalofo::Refusal;
+///
+/// assert_eq!(Refusal::Step.number(), 4);
+/// assert_eq!(
+///     Refusal::Step.to_string(),
+///     "refusal 4: the distance is not a multiple of the format's step"
+/// );
+/// ```
+#[derive(Clone, Copy, Debug, PartialEq, Eq, Hash)]
+#[repr(u8)]
+pub enum Refusal {
+    /// 1: the width or register size is not one that the entry names.
+    Width = 1,
+    /// 2: a register number above 30 (moves) or above 31 (logical words).
+    Register = 2,
+    /// 3: no field spells the value.
+    NoField = 3,
+    /// 4: the distance is not a multiple of the format's step.
+    Step = 4,
+    /// 5: the distance is outside the format's range.
+    Range = 5,
+    /// 6: the base word already has a bit set in the field.
+    Taken = 6,
+    /// 7: an unknown format or operation number.
+    Unknown = 7,
+    /// 8: the words do not fit from the position on, or the position lies past the end.
+    NoRoom = 8,
+    /// 9: an element index above its limit. No function of this package gives it.
+    Index = 9,
+    /// 10: the base opcode is zero. No function of this package gives it.
+    ZeroBase = 10,
+}
+
+impl Refusal {
+    /// All ten, in the order of their numbers.
+    pub const ALL: [Refusal; 10] = [
+        Refusal::Width,
+        Refusal::Register,
+        Refusal::NoField,
+        Refusal::Step,
+        Refusal::Range,
+        Refusal::Taken,
+        Refusal::Unknown,
+        Refusal::NoRoom,
+        Refusal::Index,
+        Refusal::ZeroBase,
+    ];
+
+    /// The number that stands for it at the C entries.
+    pub const fn number(self) -> u8 {
+        self as u8
+    }
+
+    /// The refusal of a number from 1 to 10.
+    pub const fn from_number(number: u8) -> Option<Refusal> {
+        match number {
+            1..=10 => Some(Refusal::ALL[number as usize - 1]),
+            _ => None,
+        }
+    }
+
+    /// The event, in words.
+    const fn event(self) -> &'static str {
+        match self {
+            Refusal::Width => "the width or register size is not one that the entry names",
+            Refusal::Register => {
+                "the register number is above 30 (moves) or above 31 (logical words)"
+            }
+            Refusal::NoField => "no field spells the value",
+            Refusal::Step => "the distance is not a multiple of the format's step",
+            Refusal::Range => "the distance is outside the format's range",
+            Refusal::Taken => "the base word already has a bit set in the field",
+            Refusal::Unknown => "the format or operation number is unknown",
+            Refusal::NoRoom => {
+                "the words do not fit from the position on, or the position lies past the end"
+            }
+            Refusal::Index => "the element index is above its limit",
+            Refusal::ZeroBase => "the base opcode is zero",
+        }
+    }
+}
+
+impl fmt::Display for Refusal {
+    fn fmt(&self, f: &mut fmt::Formatter<'_>) -> fmt::Result {
+        write!(f, "refusal {}: {}", self.number(), self.event())
+    }
+}
+
+impl Error for Refusal {}
