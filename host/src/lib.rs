@@ -201,7 +201,7 @@ pub fn logical_word(
     after(position, ffi::logical_word(bytes, position.0, (operation, width), (rn, rd), value))
 }
 
-/// Writes a base word with a distance placed in the field of a [`format`]. The distance counts from the instruction; for ADRP, from
+/// Writes a base word with a distance placed in the field of a [`mod@format`]. The distance counts from the instruction; for ADRP, from
 /// its page.
 ///
 /// # Errors
@@ -254,7 +254,7 @@ pub fn displacement_to(
     after(position, ffi::displacement_to(bytes, position.0, format, base, target, address))
 }
 
-/// The distance that a word spells at a [`format`], as Arm reads it.
+/// The distance that a word spells at a [`mod@format`], as Arm reads it.
 ///
 /// # Errors
 /// [`Refusal::Unknown`] for a format above 5.
