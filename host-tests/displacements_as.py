@@ -5,16 +5,11 @@ Reads lines `FORMAT BASE_HEX DISTANCE_DECIMAL WORD_HEX` from standard input and 
 ADRP, GNU ld) gives for the instruction of that base at that distance. All lines go through one run of the assembler. The last line is
 `N passed, M failed`; the exit status is 1 if a line failed. Where the tools are missing it says `skipped: ..` and exits 0.
 """
-import os
-import re
-import shutil
-import subprocess
 import sys
 import tempfile
 
-PREFIX = "aarch64-linux-gnu-"
-# The text starts above 4 GiB, so that every page in reach has an address.
-TEXT = 0x200000000
+from gnu import assemble, close, lacks
+
 CONDITIONS = "eq ne cs cc mi pl vs vc hi ls ge lt gt le al nv".split()
 
 
@@ -84,37 +79,8 @@ def parse(line):
     return (text, word) if text else (None, f"the base {base:08x} is no instruction of format {form}")
 
 
-def run(tool, *words):
-    return subprocess.run([PREFIX + tool, *words], capture_output=True, text=True)
-
-
-def assemble(texts, folder):
-    """The words that GNU as gives, one for each text; and its complaint for each text that it refuses."""
-    source, thing, linked, raw = (os.path.join(folder, n) for n in ("all.s", "all.o", "all", "all.bin"))
-    refused = {}
-    while True:
-        with open(source, "w") as f:
-            f.write("".join(("nop" if i in refused else t) + "\n" for i, t in enumerate(texts)))
-        made = run("as", "-march=armv8-a", "-o", thing, source)
-        if made.returncode == 0:
-            break
-        more = {int(n) - 1: m for n, m in re.findall(r":(\d+): Error: (.*)", made.stderr)}
-        if not more.keys() - refused.keys():
-            sys.exit("the assembler failed: " + made.stderr[:2000])
-        refused.update(more)
-    # Plain as leaves the page of an ADRP to the linker.
-    for step in (run("ld", f"-Ttext={TEXT:#x}", "-e", "0", "-o", linked, thing), run("objcopy", "-O", "binary", "-j", ".text", linked, raw)):
-        if step.returncode != 0:
-            sys.exit("the linker failed: " + step.stderr[:2000])
-    with open(raw, "rb") as f:
-        data = f.read()
-    return [int.from_bytes(data[i : i + 4], "little") for i in range(0, 4 * len(texts), 4)], refused
-
-
 def main():
-    missing = [PREFIX + t for t in ("as", "ld", "objcopy") if not shutil.which(PREFIX + t)]
-    if missing:
-        print(f"skipped: {', '.join(missing)} not found (Debian has them in the package binutils-aarch64-linux-gnu)")
+    if lacks("as", "ld", "objcopy"):
         return 0
     lines = [l.strip() for l in sys.stdin if l.strip()]
     asked = [parse(l) for l in lines]
@@ -128,12 +94,7 @@ def main():
             failures[i] = f"GNU as refuses `{text}`: {refused[k]}"
         elif words[k] != word:
             failures[i] = f"GNU as gives {words[k]:08x} for `{text}`"
-    for i in sorted(failures):
-        print(f"line {i + 1}: {lines[i]}: {failures[i]}")
-    if not lines:
-        print("no line was given")
-    print(f"{len(lines) - len(failures)} passed, {len(failures) if lines else 1} failed")
-    return 1 if failures or not lines else 0
+    return close(lines, failures)
 
 
 if __name__ == "__main__":

@@ -8,14 +8,12 @@ missing it says `skipped: ..` and exits 0.
 """
 import os
 import re
-import shutil
-import subprocess
 import sys
 import tempfile
 
-PREFIX = "aarch64-linux-gnu-"
+from gnu import assemble, close, lacks, run
+
 OPERATIONS = ["and", "orr", "eor", "ands"]
-SHOWN = 10
 
 
 def register(number, width, stack):
@@ -39,32 +37,6 @@ def parse(line):
     return f"{OPERATIONS[operation]} {target}, {source}, #{value:#x}", word
 
 
-def run(tool, *words):
-    return subprocess.run([PREFIX + tool, *words], capture_output=True, text=True)
-
-
-def assemble(texts, folder):
-    """The words that GNU as gives, and its complaint for each text that it refuses."""
-    source, thing, raw = (os.path.join(folder, n) for n in ("all.s", "all.o", "all.bin"))
-    refused = {}
-    while True:
-        with open(source, "w") as f:
-            f.write("".join(("nop" if i in refused else t) + "\n" for i, t in enumerate(texts)))
-        made = run("as", "-march=armv8-a", "-o", thing, source)
-        if made.returncode == 0:
-            break
-        more = {int(n) - 1: m for n, m in re.findall(r":(\d+): Error: (.*)", made.stderr)}
-        if not more.keys() - refused.keys():
-            sys.exit("the assembler failed: " + made.stderr[:2000])
-        refused.update(more)
-    copied = run("objcopy", "-O", "binary", "-j", ".text", thing, raw)
-    if copied.returncode != 0:
-        sys.exit("objcopy failed: " + copied.stderr[:2000])
-    with open(raw, "rb") as f:
-        data = f.read()
-    return [int.from_bytes(data[i : i + 4], "little") for i in range(0, 4 * len(texts), 4)], refused
-
-
 def disassemble(words, folder):
     """The text that objdump reads from each word, with no aliases."""
     raw = os.path.join(folder, "words.bin")
@@ -78,9 +50,7 @@ def disassemble(words, folder):
 
 
 def main():
-    missing = [PREFIX + t for t in ("as", "objcopy", "objdump") if not shutil.which(PREFIX + t)]
-    if missing:
-        print(f"skipped: {', '.join(missing)} not found (Debian has them in the package binutils-aarch64-linux-gnu)")
+    if lacks("as", "ld", "objcopy", "objdump"):
         return 0
     lines = [l.strip() for l in sys.stdin if l.strip()]
     asked = [parse(l) for l in lines]
@@ -98,14 +68,7 @@ def main():
             failures[i] = f"GNU as gives {words[k]:08x} for `{text}`"
         elif word is not None and read.get(i) != text:
             failures[i] = f"objdump reads `{read.get(i)}` and not `{text}`"
-    for i in sorted(failures)[:SHOWN]:
-        print(f"line {i + 1}: {lines[i]}: {failures[i]}")
-    if len(failures) > SHOWN:
-        print(f".. and {len(failures) - SHOWN} more")
-    if not lines:
-        print("no line was given")
-    print(f"{len(lines) - len(failures)} passed, {len(failures) if lines else 1} failed")
-    return 1 if failures or not lines else 0
+    return close(lines, failures)
 
 
 if __name__ == "__main__":
