@@ -18,10 +18,10 @@ use mir.Val.{SFits, ofZ}
 use mir.Facts.{toZ-ofZ, ofZ-toZ, sfits-toZ}
 use Rattle.arm.proofs.SignExtends.{extend, extended}
 use Rattle.words.specs.Said.{Said, ok, no}
-use Rattle.words.specs.Put.{putOf}
+use Rattle.writers.specs.Put.{putOf}
 use Rattle.words.proofs.Answers.{not-both}
 use Rattle.words.proofs.Fields.{part, bit, bit-of-clear, clear-of-bits}
-use Rattle.words.proofs.Writes.{put-full, put-fits, put-done}
+use Rattle.writers.proofs.Writes.{put-full, put-fits, put-done}
 use Rattle.displacements.specs.declared.Form.{Form}
 use Rattle.displacements.specs.Forms.{forms, formOf, fieldIn, putIn, step, reach, least, greatest}
 use Rattle.displacements.specs.Answer.{stepsOf, placeSaid, dispSaid, originOf, between, targetSaid, offset, readSaid}

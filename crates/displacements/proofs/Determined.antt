@@ -4,7 +4,8 @@ use mathlib.Core.List.{List}
 use Prim.Native.Nat.{ℕ}
 use lib.IntN.{ℤ}
 use Rattle.words.specs.Answer.{said, made}
-use Rattle.words.specs.Put.{packed, putOf}
+use Rattle.words.specs.Listed.{packed}
+use Rattle.writers.specs.Put.{putOf}
 use Rattle.words.specs.declared.Worded.{Worded}
 use Rattle.words.specs.declared.Written.{Written}
 use Rattle.words.proofs.Answers.{number-all, no-number, not-both, made-all}

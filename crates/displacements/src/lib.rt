@@ -11,7 +11,8 @@ ghost use Prim.Native.Nat.{_^_, _<_};
 ghost use mir.Syntax.{w64};
 ghost use mir.Val.{toZ, ofZ};
 ghost use Rattle.words.specs.Answer.{said, made};
-ghost use Rattle.words.specs.Put.{packed, putOf};
+ghost use Rattle.words.specs.Listed.{packed};
+ghost use Rattle.writers.specs.Put.{putOf};
 ghost use Rattle.displacements.specs.Forms.{formOf, fieldIn, putIn};
 ghost use Rattle.displacements.specs.Answer.{placeSaid, dispSaid, originOf, between, targetSaid, readSaid, distanceSaid};
 ghost use Rattle.displacements.specs.Private.{offsetIn, Sound};
@@ -148,7 +149,7 @@ pub fn emit_disp_imm(
 ) -> Written
     ensures { λ r. ⌜ (said r, now (words .exit)) ≡ putOf (now (words .entry)) (at .0) (dispSaid format (base .0) (distance .0)) ⌝ }
 {
-    words::put(words, at, disp_word(format, base, distance))
+    writers::put(words, at, disp_word(format, base, distance))
 }
 
 // The same from a target and the address of the instruction: 7, 6, 4, 5, 8.
@@ -162,7 +163,7 @@ pub fn emit_disp_target(
 ) -> Written
     ensures { λ r. ⌜ (said r, now (words .exit)) ≡ putOf (now (words .entry)) (at .0) (targetSaid format (base .0) target address) ⌝ }
 {
-    words::put(words, at, disp_target_word(format, base, target, address))
+    writers::put(words, at, disp_target_word(format, base, target, address))
 }
 
 // The field, times the step, with its top bit copied up to bit 63.

@@ -16,9 +16,9 @@ use lib.Signed.{mag}
 use mir.Syntax.{w64}
 use mir.Val.{toZ}
 use Rattle.words.specs.Said.{Said, ok, no}
-use Rattle.words.specs.Put.{allBytes, putBytesOf}
+use Rattle.writers.specs.Put.{allBytes, putBytesOf}
 use Rattle.words.proofs.Answers.{not-both}
-use Rattle.words.proofs.Writes.{bytes-refused, bytes-written, bytes-others, bytes-done}
+use Rattle.writers.proofs.Writes.{bytes-refused, bytes-written, bytes-others, bytes-done}
 use Rattle.moves.specs.Moves.{movSaid, patchSaid}
 use Rattle.moves.proofs.Lengths.{mov-by, patch-by, mov-some, patch64-length, patch32-length}
 use Rattle.logical.specs.Answer.{Encoded}

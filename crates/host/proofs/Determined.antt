@@ -4,7 +4,7 @@ use mathlib.Core.List.{List}
 use Prim.Native.Nat.{ℕ}
 use lib.IntN.{ℤ}
 use Rattle.words.specs.Said.{Said}
-use Rattle.words.specs.Put.{putBytesOf}
+use Rattle.writers.specs.Put.{putBytesOf}
 use Rattle.words.proofs.Determined.{one-answer}
 use Rattle.moves.specs.Moves.{movSaid, patchSaid}
 use Rattle.logical.specs.Word.{ForWord, wordOf}

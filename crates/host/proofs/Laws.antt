@@ -9,7 +9,8 @@ use lib.ListN.{length, length-take}
 use lib.Seq.{sets}
 use Rattle.words.specs.Said.{Said, ok, no}
 use Rattle.words.specs.Answer.{said, made}
-use Rattle.words.specs.Put.{listed, allBytes, putBytesOf}
+use Rattle.words.specs.Listed.{listed}
+use Rattle.writers.specs.Put.{allBytes, putBytesOf}
 use Rattle.words.specs.declared.Words.{Words}
 use Rattle.words.specs.declared.Worded.{Worded}
 use Rattle.words.specs.declared.Written.{Written}

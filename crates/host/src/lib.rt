@@ -14,7 +14,8 @@ ghost use mathlib.Core.Path.{_≡_};
 ghost use Prim.Native.Nat.{_≤_};
 ghost use Rattle.words.specs.Said.{Said};
 ghost use Rattle.words.specs.Answer.{numberOf, said, made};
-ghost use Rattle.words.specs.Put.{listed, putBytesOf};
+ghost use Rattle.words.specs.Listed.{listed};
+ghost use Rattle.writers.specs.Put.{putBytesOf};
 ghost use Rattle.logical.specs.Word.{ForWord};
 ghost use Rattle.moves.specs.Moves.{movSaid, patchSaid};
 ghost use Rattle.displacements.specs.Answer.{dispSaid, targetSaid, readSaid};
@@ -43,7 +44,7 @@ fn written(at: usize, w: Written) -> u64
 fn put(bytes: &mut [u8], position: usize, m: Worded) -> u64
     ensures { λ r. ⌜ (r, now (bytes .exit)) ≡ hostOf position (putBytesOf (now (bytes .entry)) position (listed (made m))) ⌝ }
 {
-    written(position, words::put_bytes(bytes, WordPos(position), m))
+    written(position, writers::put_bytes(bytes, WordPos(position), m))
 }
 
 // A move of a value to a register: 2, 8.

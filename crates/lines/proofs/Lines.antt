@@ -6,7 +6,7 @@ use native.Mathlib.Omega.{arith}
 use borrow.Author.Tests.{le-leb, lt-leb}
 use lib.ListN.{length, length-append, length-take}
 use lib.Seq.{sets}
-use Rattle.words.specs.Put.{listOf}
+use Rattle.words.specs.Listed.{listOf}
 use Rattle.words.specs.declared.Words as w
 use Rattle.words.specs.Answer.{numberOf}
 use Rattle.lines.specs.Item.{Item, words, numbers, no, badMark, cutAt, itemsOf}

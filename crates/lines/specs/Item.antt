@@ -2,7 +2,7 @@
 use mathlib.Core.List.{List, [], _∷_}
 use Prim.Native.Nat.{ℕ}
 use Rattle.words.specs.Answer.{numberOf}
-use Rattle.words.specs.Put.{listOf}
+use Rattle.words.specs.Listed.{listOf}
 use Rattle.lines.specs.declared.Answer.{Answer}
 use Rattle.lines.specs.declared.Answer.the-variants.{Nothing, Words, Numbers, No, BadMark, Cut}
 

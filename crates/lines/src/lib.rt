@@ -6,7 +6,7 @@ ghost use mathlib.Core.Path.{_≡_};
 ghost use mathlib.Core.List.{[], _∷_, _++_};
 ghost use Prim.Native.Nat.{_+_, _≤_, _<_};
 ghost use lib.ListN.{length};
-ghost use Rattle.words.specs.Put.{listOf};
+ghost use Rattle.words.specs.Listed.{listOf};
 ghost use Rattle.lines.specs.Item.{itemsOf};
 ghost use Rattle.lines.specs.Text.{digit, hex4, hex8, decimal, spaced, okText, lineEnd, lineAt};
 ghost use Rattle.lines.specs.Steps.{Put, spell, part};

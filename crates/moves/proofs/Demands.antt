@@ -11,10 +11,11 @@ use lib.Seq.{slice}
 use Rattle.arm.specs.Bits.{Ones}
 use Rattle.arm.specs.MoveWide.{Regs, write, run}
 use Rattle.words.specs.Said.{Said, ok, no}
-use Rattle.words.specs.Put.{listOf, wordsOf, packed, putOf}
+use Rattle.words.specs.Listed.{listOf, wordsOf, packed}
+use Rattle.writers.specs.Put.{putOf}
 use Rattle.words.specs.declared.Words.{Words}
 use Rattle.words.proofs.Answers.{not-both, list-back}
-use Rattle.words.proofs.Writes.{put-done, written}
+use Rattle.writers.proofs.Writes.{put-done, written}
 use Rattle.moves.specs.Moves.{count, others, long, movWords, movSaid, patchSaid, patch64, patch32}
 use Rattle.moves.proofs.Run.{mov-run, patch64-run, patch32-run}
 use Rattle.moves.proofs.Lengths.{mov-by, patch-by, mov-some, patch64-length, patch32-length}

@@ -3,7 +3,8 @@ use mathlib.Core.Path.{_≡_}
 use mathlib.Core.List.{List}
 use Prim.Native.Nat.{ℕ}
 use Rattle.words.specs.Answer.{said, made}
-use Rattle.words.specs.Put.{packed, putOf}
+use Rattle.words.specs.Listed.{packed}
+use Rattle.writers.specs.Put.{putOf}
 use Rattle.words.specs.declared.Worded.{Worded}
 use Rattle.words.specs.declared.Written.{Written}
 use Rattle.words.proofs.Answers.{made-all}

@@ -9,7 +9,7 @@ use lib.Bits.{bitAnd, bitXor, and-mask, xor-zero-r, xor-add-and}
 use lib.Dec.{eqb, eqb·suc-zero}
 use lib.ListN.{length, set, getD, replicate, length-append}
 use lib.Seq.{set-at, append-snoc}
-use Rattle.words.specs.Put.{wordsOf}
+use Rattle.words.specs.Listed.{wordsOf}
 use Rattle.words.specs.declared.Words.{Words}
 use Rattle.moves.specs.Moves.{word, movz, movn, movk, half, unless, others, rest, byMovz, byMovn}
 use Rattle.moves.specs.Steps.{firstBase, firstWord, lead}

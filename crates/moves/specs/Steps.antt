@@ -5,7 +5,7 @@ use mathlib.Core.List.{[], _∷_}
 use Prim.Native.Nat.{ℕ, suc, _+_, _*_, _/_, _%_, _^_, _≤_, _<_}
 use lib.Bits.{bitXor}
 use lib.Dec.{eqb, leb}
-use Rattle.words.specs.Put.{wordsOf}
+use Rattle.words.specs.Listed.{wordsOf}
 use Rattle.words.specs.declared.Words.{Words}
 use Rattle.moves.specs.Moves.{movz, movn, half, same, count}
 use Rattle.moves.specs.declared.Halves.{Halves}

@@ -9,7 +9,8 @@ ghost use mathlib.Core.Path.{_≡_};
 ghost use mathlib.Core.List.{[], _∷_};
 ghost use Prim.Native.Nat.{_/_, _%_, _^_, _<_};
 ghost use Rattle.words.specs.Answer.{said, made};
-ghost use Rattle.words.specs.Put.{wordsOf, packed, putOf};
+ghost use Rattle.words.specs.Listed.{wordsOf, packed};
+ghost use Rattle.writers.specs.Put.{putOf};
 ghost use Rattle.moves.specs.Moves.{word, count, others, rest, long, short, movSaid, isSize, patchWords, patchSaid};
 ghost use Rattle.moves.specs.Steps.{Halved, Tested, Passed, Filled, Based, firstWord, lead};
 
@@ -221,7 +222,7 @@ pub fn mov_words(imm: u64, rd: u32) -> Worded
 pub fn encode_mov_sequence64(words: &mut [u32], at: WordPos, imm: u64, rd: u32) -> Written
     ensures { λ r. ⌜ (said r, now (words .exit)) ≡ putOf (now (words .entry)) (at .0) (movSaid rd imm) ⌝ }
 {
-    words::put(words, at, mov_words(imm, rd))
+    writers::put(words, at, mov_words(imm, rd))
 }
 
 fn is_size(size: u32) -> bool
@@ -271,5 +272,5 @@ pub fn encode_patchable_mov_imm(
 ) -> Written
     ensures { λ r. ⌜ (said r, now (words .exit)) ≡ putOf (now (words .entry)) (at .0) (patchSaid size value rd) ⌝ }
 {
-    words::put(words, at, patchable_mov_words(size, value, rd))
+    writers::put(words, at, patchable_mov_words(size, value, rd))
 }

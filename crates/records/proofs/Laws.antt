@@ -5,7 +5,7 @@ use mathlib.Core.List.{List}
 use Prim.Native.Nat.{ℕ}
 use Rattle.words.specs.Said.{Said, ok, no}
 use Rattle.words.specs.Answer.{numberOf}
-use Rattle.words.specs.Put.{listOf, wordsOf, listed, packed}
+use Rattle.words.specs.Listed.{listOf, wordsOf, listed, packed}
 use Rattle.words.specs.declared.Refusal.{Refusal}
 use Rattle.words.specs.declared.Words.{Words}
 use Rattle.words.proofs.Answers.{listed-packed}

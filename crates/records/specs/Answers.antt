@@ -1,7 +1,7 @@
 -- Which answer by value says a line. Assumes nothing.
 use mathlib.Core.Path.{_≡_}
 use mathlib.Core.List.{[], _∷_}
-use Rattle.words.specs.Put.{listOf, wordsOf}
+use Rattle.words.specs.Listed.{listOf, wordsOf}
 use Rattle.lines.specs.Item.{Item, itemsOf}
 use Rattle.lines.specs.declared.Answer.{Answer}
 use Rattle.lines.specs.declared.Answer.the-variants.{Nothing, Words, Numbers, No, BadMark, Cut}

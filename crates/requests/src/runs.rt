@@ -129,7 +129,7 @@ fn room(r: Request) -> usize
 }
 
 fn put(r: Request, run: &mut [u32]) -> Written {
-    words::put(run, WordPos(r.b as usize), words_of(r))
+    writers::put(run, WordPos(r.b as usize), words_of(r))
 }
 
 fn logical_word(r: Request, run: &mut [u32]) -> Written {
@@ -224,7 +224,7 @@ fn packed_lines(w: Written, run: &[u8], out: &mut [u8]) -> usize
 fn in_bytes(r: Request, run: &mut [u8], out: &mut [u8]) -> usize
     requires { ⌜ length (now run) ≤ 32 ⌝ }
 {
-    let w = words::put_bytes(run, WordPos(r.b as usize), words_of(r));
+    let w = writers::put_bytes(run, WordPos(r.b as usize), words_of(r));
     packed_lines(w, run, out)
 }
 

@@ -6,7 +6,7 @@ use native.Mathlib.Omega.{arith}
 use lib.ListN.{length, getD}
 use Rattle.words.specs.Said.{Said, ok, no}
 use Rattle.words.specs.Answer.{numberOf, said, made}
-use Rattle.words.specs.Put.{listOf, wordsOf, listed, packed}
+use Rattle.words.specs.Listed.{listOf, wordsOf, listed, packed}
 use Rattle.words.specs.declared.Refusal.{Refusal}
 use Rattle.words.specs.declared.Refusal.the-variants.{Width, Register, NoField, Step, Range, Taken, Unknown, NoRoom, Index, ZeroBase}
 use Rattle.words.specs.declared.WordPos.{WordPos}

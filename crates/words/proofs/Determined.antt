@@ -8,11 +8,9 @@ use mir.Syntax.{w64}
 use mir.Val.{toZ, ofZ}
 use Rattle.arm.specs.Bits.{Ones}
 use Rattle.words.specs.Said.{Said}
-use Rattle.words.specs.Answer.{numberOf, said, made}
+use Rattle.words.specs.Answer.{numberOf, said}
 use Rattle.words.specs.Bit.{bitOf}
-use Rattle.words.specs.Put.{listed, putOf, putBytesOf}
 use Rattle.words.specs.declared.Refusal.{Refusal}
-use Rattle.words.specs.declared.Worded.{Worded}
 use Rattle.words.specs.declared.Written.{Written}
 use Rattle.words.proofs.Answers.{said-all}
 
@@ -43,10 +41,3 @@ signed-of-determined x r s p q = one-answer p q
 
 pub bits-of-determined : (d : ℤ) (r s : ℕ) → r ≡ ofZ w64 d → s ≡ ofZ w64 d → r ≡ s
 bits-of-determined d r s p q = one-answer p q
-
-module _ (ws : List ℕ) (at : ℕ) (m : Worded) (r s : Written) (l k : List ℕ) where
-  pub put-determined : (said r, l) ≡ putOf ws at (listed (made m)) → (said s, k) ≡ putOf ws at (listed (made m)) → (r ≡ s) × (l ≡ k)
-  put-determined p q = one-write (putOf ws at (listed (made m))) r s l k p q
-
-  pub put-bytes-determined : (said r, l) ≡ putBytesOf ws at (listed (made m)) → (said s, k) ≡ putBytesOf ws at (listed (made m)) → (r ≡ s) × (l ≡ k)
-  put-bytes-determined p q = one-write (putBytesOf ws at (listed (made m))) r s l k p q

@@ -1,5 +1,4 @@
--- The laws of words, fields, answers, writers and tables, for the proofs of other crates.
-mod Stores
+-- The laws of words, fields, answers and tables, for the proofs of other crates.
 pub mod Answers
 pub mod Determined
 pub mod Fields
@@ -7,4 +6,3 @@ pub mod Low
 pub mod Runs
 mod Signs
 pub mod Table
-pub mod Writes

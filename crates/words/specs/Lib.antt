@@ -1,5 +1,5 @@
--- Document 01's numbers, what an entry says, and what writing words leaves.
+-- Document 01's numbers, what an entry says, and words by value.
 pub mod Said
 pub mod Answer
 pub mod Bit
-pub mod Put
+pub mod Listed

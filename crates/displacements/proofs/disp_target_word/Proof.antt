@@ -2,7 +2,7 @@
 use mathlib.Core.Path.{ap, _∙_}
 use borrow.Author.Needs.{needs}
 use lib.IntN.{ℤ}
-use Rattle.words.specs.Put.{packed}
+use Rattle.words.specs.Listed.{packed}
 use Rattle.displacements.specs.Answer.{dispSaid, between}
 use Rattle.displacements.proofs.disp_target_word.Statement.{statement}
 use Rattle.displacements.proofs.disp_target_word.Tie as tie

@@ -3,7 +3,7 @@ use mathlib.Core.Path.{_∙_, ap}
 use native.Mathlib.Omega.{arith}
 use borrow.Author.Needs.{needs}
 use borrow.Author.Tests.{lt-ltb, le-ltb}
-use Rattle.words.specs.Put.{packed}
+use Rattle.words.specs.Listed.{packed}
 use Rattle.displacements.specs.declared.Form.{Form}
 use Rattle.displacements.specs.Answer.{placeSaid}
 use Rattle.displacements.proofs.Laws.{sound}

@@ -1,7 +1,8 @@
 -- `displacements::emit_disp_imm` meets its contract. Assumes nothing.
 use mathlib.Core.Path.{_∙_, ap}
 use borrow.Author.Needs.{needs}
-use Rattle.words.specs.Put.{listed, putOf}
+use Rattle.words.specs.Listed.{listed}
+use Rattle.writers.specs.Put.{putOf}
 use Rattle.words.proofs.Answers.{listed-packed}
 use Rattle.displacements.specs.Answer.{dispSaid}
 use Rattle.displacements.proofs.Answers.{short}

@@ -10,7 +10,7 @@ use mir.Facts.{toZ-ofZ}
 use mir.Syntax.{w64}
 use mir.Val.{SFits, ofZ}
 use Rattle.words.specs.Said.{ok}
-use Rattle.words.specs.Put.{packed}
+use Rattle.words.specs.Listed.{packed}
 use Rattle.words.proofs.Low.{one-up, least-below}
 use Rattle.displacements.specs.Forms.{putIn, step}
 use Rattle.displacements.specs.Answer.{stepsOf}

@@ -1,7 +1,7 @@
 -- `host::vaimalofo_displacement` meets its contract. Assumes nothing.
 use mathlib.Core.Path.{ap, _∙_}
 use mir.Facts.{toZ-ofZ}
-use Rattle.words.specs.Put.{listed}
+use Rattle.words.specs.Listed.{listed}
 use Rattle.words.proofs.Answers.{listed-packed}
 use Rattle.displacements.specs.Answer.{dispSaid}
 use Rattle.displacements.proofs.Answers.{short}

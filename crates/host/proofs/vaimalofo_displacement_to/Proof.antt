@@ -1,6 +1,6 @@
 -- `host::vaimalofo_displacement_to` meets its contract. Assumes nothing.
 use mathlib.Core.Path.{ap, _∙_}
-use Rattle.words.specs.Put.{listed}
+use Rattle.words.specs.Listed.{listed}
 use Rattle.words.proofs.Answers.{listed-packed}
 use Rattle.displacements.specs.Answer.{originOf, between, targetSaid}
 use Rattle.displacements.proofs.Answers.{short}

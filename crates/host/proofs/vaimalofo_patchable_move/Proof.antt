@@ -1,6 +1,6 @@
 -- `host::vaimalofo_patchable_move` meets its contract. Assumes nothing.
 use mathlib.Core.Path.{ap, _∙_}
-use Rattle.words.specs.Put.{listed}
+use Rattle.words.specs.Listed.{listed}
 use Rattle.words.proofs.Answers.{listed-packed}
 use Rattle.moves.specs.Moves.{patchSaid}
 use Rattle.moves.proofs.Lengths.{patch-short}

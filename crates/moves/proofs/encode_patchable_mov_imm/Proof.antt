@@ -1,6 +1,7 @@
 -- `moves::encode_patchable_mov_imm` meets its contract. Assumes nothing.
 use mathlib.Core.Path.{ap, _∙_}
-use Rattle.words.specs.Put.{listed, putOf}
+use Rattle.words.specs.Listed.{listed}
+use Rattle.writers.specs.Put.{putOf}
 use Rattle.words.proofs.Answers.{listed-packed}
 use Rattle.moves.specs.Moves.{patchSaid}
 use Rattle.moves.proofs.Lengths.{patch-short}

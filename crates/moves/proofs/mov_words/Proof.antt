@@ -4,7 +4,7 @@ use Prim.Native.Nat.{ℕ, _/_, _%_}
 use native.Mathlib.Omega.{arith}
 use borrow.Author.Tests.{lt-ltb, le-ltb, le-leb, lt-leb}
 use Rattle.words.specs.Said.{ok}
-use Rattle.words.specs.Put.{wordsOf}
+use Rattle.words.specs.Listed.{wordsOf}
 use Rattle.moves.specs.Moves.{half, short, movWords, movSaid}
 use borrow.Author.Needs.{needs}
 use Rattle.moves.proofs.mov_words.Statement.{statement}

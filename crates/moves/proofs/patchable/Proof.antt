@@ -3,7 +3,7 @@ use mathlib.Core.Path.{ap₂, _∙_}
 use mathlib.Core.List.{[], _∷_}
 use Prim.Native.Nat.{ℕ}
 use borrow.Author.Tests.{eq-eqb, ne-eqb}
-use Rattle.words.specs.Put.{wordsOf}
+use Rattle.words.specs.Listed.{wordsOf}
 use Rattle.moves.specs.Moves.{movz, movk, movz32, movk32, patchWords, patch64, patch32}
 use Rattle.moves.proofs.Lists.{word-of, four-words}
 use borrow.Author.Needs.{needs}

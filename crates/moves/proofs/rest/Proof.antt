@@ -3,7 +3,7 @@ use mathlib.Core.Path.{ap, _∙_}
 use mathlib.Core.List.{List, [], _++_}
 use Prim.Native.Nat.{ℕ}
 use native.Mathlib.Omega.{arith}
-use Rattle.words.specs.Put.{wordsOf}
+use Rattle.words.specs.Listed.{wordsOf}
 use Rattle.moves.specs.Moves.{half, rest}
 use Rattle.moves.proofs.Lists.{part, others-parts, nothing, more, held}
 use Rattle.moves.proofs.rest.Statement.{statement}

@@ -1,28 +1,11 @@
--- Up to four words by value, and what writing them into a lent run says and leaves. Assumes nothing.
+-- What writing words into a lent run says and leaves. Assumes nothing.
 use mathlib.Core.Bool.{cond}
 use mathlib.Core.List.{List, [], _∷_, _++_}
 use Prim.Native.Nat.{ℕ, _+_, _*_, _/_, _%_}
 use lib.Dec.{leb}
-use lib.ListN.{length, take, getD}
+use lib.ListN.{length}
 use lib.Seq.{sets}
 use Rattle.words.specs.Said.{Said, ok, no}
-use Rattle.words.specs.declared.Words.{Words}
-
--- the words of a value: the first ones, as many as the count says
-abbrev pub listOf : Words → List ℕ
-listOf f = take (f .count) (f .a ∷ f .b ∷ f .c ∷ f .d ∷ [])
-
--- the value of at most four words; the numbers that are not used are 0
-abbrev pub wordsOf : List ℕ → Words
-wordsOf ws = record { count = length ws; a = getD ws 0 0; b = getD ws 1 0; c = getD ws 2 0; d = getD ws 3 0 }
-
-abbrev pub listed : Said Words → Said (List ℕ)
-listed (ok f) = ok (listOf f)
-listed (no n) = no n
-
-abbrev pub packed : Said (List ℕ) → Said Words
-packed (ok ws) = ok (wordsOf ws)
-packed (no n) = no n
 
 -- what is said, and the run as it then is: all words from the position on, and the position after them; or 8, and the run as it was
 unfoldable pub putOf : List ℕ → ℕ → Said (List ℕ) → Said ℕ × List ℕ

@@ -7,7 +7,7 @@ use native.Mathlib.Nat.{add-zero, mul-one}
 use native.Mathlib.Omega.{arith}
 use lib.ListN.{length, set, take}
 use lib.Seq.{sets, set-set, set-comm, take-nil}
-use Rattle.words.specs.Put.{bytesOf, allBytes}
+use Rattle.writers.specs.Put.{bytesOf, allBytes}
 
 -- a store below a run of stores may come first
 below : (vs l : List ℕ) (i j a : ℕ) → j < i → set (sets l i vs) j a ≡ sets (set l j a) i vs

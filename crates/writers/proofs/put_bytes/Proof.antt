@@ -1,9 +1,9 @@
--- `words::put_bytes` meets its contract. Assumes nothing.
+-- `writers::put_bytes` meets its contract. Assumes nothing.
 use mathlib.Core.Path.{refl}
-use Rattle.words.specs.Put.{putBytesOf}
+use Rattle.writers.specs.Put.{putBytesOf}
 use borrow.Author.Needs.{needs}
-use Rattle.words.proofs.put_bytes.Statement.{statement}
-use Rattle.words.proofs.put_bytes.Tie as tie
+use Rattle.writers.proofs.put_bytes.Statement.{statement}
+use Rattle.writers.proofs.put_bytes.Tie as tie
 
 returns : tie.Need-returns
 returns c = rw (c .before .before .before .before .before .m .given .1) (c .before .before .put-words-bytes .ensures)

@@ -9,8 +9,8 @@ use borrow.Author.Tests.{le-leb, lt-leb, leb-true, leb-false}
 use lib.Dec.{leb}
 use lib.ListN.{length, set, take, drop, getD, length-append}
 use lib.Seq.{sets, sets-eq, slice, take-at, drop-at, length-take-le, getD-set-other}
 use Rattle.words.specs.Said.{Said, ok, no}
-use Rattle.words.specs.Put.{putOf, putBytesOf, allBytes}
+use Rattle.writers.specs.Put.{putOf, putBytesOf, allBytes}
 
 -- the words fit, or there is no room for them
 module _ (ws : List ℕ) (at : ℕ) (vs : List ℕ) where

@@ -1,9 +1,9 @@
--- `words::put` meets its contract. Assumes nothing.
+-- `writers::put` meets its contract. Assumes nothing.
 use mathlib.Core.Path.{refl}
-use Rattle.words.specs.Put.{putOf}
+use Rattle.writers.specs.Put.{putOf}
 use borrow.Author.Needs.{needs}
-use Rattle.words.proofs.put.Statement.{statement}
-use Rattle.words.proofs.put.Tie as tie
+use Rattle.writers.proofs.put.Statement.{statement}
+use Rattle.writers.proofs.put.Tie as tie
 
 returns : tie.Need-returns
 returns c = rw (c .before .before .before .before .before .m .given .1) (c .before .before .put-words .ensures)

@@ -1,7 +1,7 @@
--- `words::store` meets its contract. Assumes nothing.
+-- `writers::store` meets its contract. Assumes nothing.
 use borrow.Author.Needs.{needs}
-use Rattle.words.proofs.store.Statement.{statement}
-use Rattle.words.proofs.store.Tie as tie
+use Rattle.writers.proofs.store.Statement.{statement}
+use Rattle.writers.proofs.store.Tie as tie
 
 returns : tie.Need-returns
 returns c = rw (c .least .ensures)

@@ -1,10 +1,10 @@
--- `words::store_bytes` meets its contract. Assumes nothing.
+-- `writers::store_bytes` meets its contract. Assumes nothing.
 use native.Mathlib.Numerals.{towards-suc}
 use native.Mathlib.Omega.{arith}
 use lib.ListN.{length-set}
 use borrow.Author.Needs.{needs}
-use Rattle.words.proofs.store_bytes.Statement.{statement}
-use Rattle.words.proofs.store_bytes.Tie as tie
+use Rattle.writers.proofs.store_bytes.Statement.{statement}
+use Rattle.writers.proofs.store_bytes.Tie as tie
 
 slice-write-bytes-2 : tie.Need-slice-write-bytes-2
 slice-write-bytes-2 c = simp length-set (omega arith)

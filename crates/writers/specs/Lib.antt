@@ -1,0 +1,2 @@
+-- What writing words leaves.
+pub mod Put
