@@ -6,7 +6,8 @@ use std::process::Command;
 use std::{env, fs};
 
 /// The crates that the entries are made of.
-const CRATES: [&str; 6] = ["arm", "words", "logical", "moves", "displacements", "host"];
+const CRATES: [&str; 7] =
+    ["arm", "words", "logical", "logical_words", "moves", "displacements", "host"];
 
 fn main() {
     if let Err(why) = build() {

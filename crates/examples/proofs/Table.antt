@@ -9,7 +9,7 @@ use Rattle.arm.specs.BitMasks.{highestSetBit, len, esize, wmask}
 use Rattle.words.specs.Said.{Said, ok, no}
 use Rattle.logical.specs.declared.LogicalImm.{LogicalImm}
 use Rattle.logical.proofs.Model.{encodeOf}
-use Rattle.logical.proofs.Examples.{normalOf}
+use Rattle.logical_decoder.proofs.Examples.{normalOf}
 use Rattle.moves.specs.Moves.{count, others, long, short, movWords, movSaid}
 use Rattle.displacements.specs.Answer.{placeSaid, dispSaid}
 

@@ -22,8 +22,8 @@ use Rattle.writers.proofs.Writes.{bytes-refused, bytes-written, bytes-others, b
 use Rattle.moves.specs.Moves.{movSaid, patchSaid}
 use Rattle.moves.proofs.Lengths.{mov-by, patch-by, mov-some, patch64-length, patch32-length}
 use Rattle.logical.specs.Answer.{Encoded}
-use Rattle.logical.specs.Word.{baseOf, filled, wordOf}
 use Rattle.logical.specs.declared.LogicalImm.{LogicalImm}
+use Rattle.logical_words.specs.Word.{baseOf, filled, wordOf}
 use Rattle.displacements.specs.Answer.{dispSaid, readSaid, offset}
 use Rattle.displacements.specs.Forms.{formOf, fieldIn, step}
 use Rattle.displacements.specs.Says.{Says, unknown, taken, off, far, word}

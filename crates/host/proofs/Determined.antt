@@ -7,11 +7,11 @@ use Rattle.words.specs.Said.{Said}
 use Rattle.writers.specs.Put.{putBytesOf}
 use Rattle.words.proofs.Determined.{one-answer}
 use Rattle.moves.specs.Moves.{movSaid, patchSaid}
-use Rattle.logical.specs.Word.{ForWord, wordOf}
 use Rattle.logical.specs.declared.LogicalImm.{LogicalImm}
 use Rattle.logical.proofs.Laws.{encoded-one}
 use Rattle.logical.proofs.Model.{encodeOf}
-use Rattle.logical.proofs.Word.{word-computed}
+use Rattle.logical_words.specs.Word.{ForWord, wordOf}
+use Rattle.logical_words.proofs.Word.{word-computed}
 use Rattle.displacements.specs.Answer.{dispSaid, targetSaid, readSaid}
 use Rattle.host.specs.Number.{told, hostOf, spelled, ForFields}
 

@@ -16,7 +16,7 @@ ghost use Rattle.words.specs.Said.{Said};
 ghost use Rattle.words.specs.Answer.{numberOf, said, made};
 ghost use Rattle.words.specs.Listed.{listed};
 ghost use Rattle.writers.specs.Put.{putBytesOf};
-ghost use Rattle.logical.specs.Word.{ForWord};
+ghost use Rattle.logical_words.specs.Word.{ForWord};
 ghost use Rattle.moves.specs.Moves.{movSaid, patchSaid};
 ghost use Rattle.displacements.specs.Answer.{dispSaid, targetSaid, readSaid};
 ghost use Rattle.host.specs.Number.{told, counted, hostOf, spelled, ForFields};
@@ -113,7 +113,7 @@ pub extern "C" fn vaimalofo_logical_word(
     put(
         bytes,
         position,
-        logical::logical_word(operation, width, value, rn, rd),
+        logical_words::logical_word(operation, width, value, rn, rd),
     )
 }
 

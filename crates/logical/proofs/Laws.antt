@@ -1,20 +1,19 @@
--- What the promises of the encoder, the decoder and the normaliser say together. Assumes nothing.
-use mathlib.Core.Path.{_≡_, refl, sym, ap, _∙_, subst⁻¹}
+-- What the encoder's promise says by itself, and how a run gives the answer. Assumes nothing.
+use mathlib.Core.Path.{_≡_, refl, sym, ap, _∙_}
 use mathlib.Core.Logic.{inl, inr, ⊎-elim}
-use Prim.Native.Nat.{ℕ, _-_, _*_, _%_, _^_, _≤_, _<_}
-use native.Mathlib.Nat.{mod-eq-of-lt, mod-mod, mod-le}
+use Prim.Native.Nat.{ℕ, _-_, _*_, _%_, _^_, _<_}
+use native.Mathlib.Nat.{mod-eq-of-lt, mod-mod}
 use native.Mathlib.Omega.{arith}
-use lib.Pow.{lt-of-le-ones}
 use Rattle.arm.specs.Bits.{Ones}
-use Rattle.arm.specs.BitMasks.{IsWidth, wmask, esize}
+use Rattle.arm.specs.BitMasks.{IsWidth, wmask}
 use Rattle.arm.proofs.Elements.{IsRun, nOf, sOf}
 use Rattle.arm.proofs.Lengths.{ones-mod}
 use Rattle.arm.proofs.Trailing.{parity}
 use Rattle.arm.proofs.Masks as masks
-use Rattle.arm.proofs.Laws.{shape, same-fields, turn-mask}
+use Rattle.arm.proofs.Laws.{shape, same-fields}
 use Rattle.words.specs.Said.{Said, ok, no}
 use Rattle.logical.specs.declared.LogicalImm.{LogicalImm}
-use Rattle.logical.specs.Answer.{fields, Refused, Decodes, Encoded, Decoded, Normal}
+use Rattle.logical.specs.Answer.{fields, Refused, Decodes, Encoded}
 use Rattle.logical.specs.Run.{Evened}
 
 -- ---- one answer
@@ -26,7 +25,7 @@ fields-is p q t = cc
 pub not-refused : {A W N : Type 0} {k : ℕ} → W → (N → ⊥) → Refused k W N → A
 not-refused w n h = absurd (⊎-elim (λ a. a .1 w) (λ b. n (b .2)) h)
 
-one-number : {W N : Type 0} {j k : ℕ} → Refused j W N → Refused k W N → j ≡ k
+pub one-number : {W N : Type 0} {j k : ℕ} → Refused j W N → Refused k W N → j ≡ k
 one-number a b =
     ⊎-elim
     (λ p. ⊎-elim (λ q. p .0 ∙ sym (q .0)) (λ q. absurd (p .1 (q .1))) b)
@@ -43,42 +42,6 @@ encoded-one w v (ok f) (ok g) a b = ap ok (one-fields v v a b refl)
 encoded-one w v (ok f) (no k) a b = not-refused (a .0) (λ none. none _ _ _ (a .1)) b
 encoded-one w v (no k) (ok g) a b = not-refused (b .0) (λ none. none _ _ _ (b .1)) a
 encoded-one w v (no j) (no k) a b = ap no (one-number a b)
-
-pub decoded-one : (w n s r : ℕ) (a b : Said ℕ) → Decoded w n s r a → Decoded w n s r b → a ≡ b
-decoded-one w n s r (ok m) (ok m') a b = ap ok (sym (a .1 .mask) ∙ b .1 .mask)
-decoded-one w n s r (ok m) (no k) a b = not-refused (a .0) (λ none. none (a .1 .legal)) b
-decoded-one w n s r (no k) (ok m) a b = not-refused (b .0) (λ none. none (b .1 .legal)) a
-decoded-one w n s r (no j) (no k) a b = ap no (one-number a b)
-
-pub normal-one : (w n s r : ℕ) (a b : Said LogicalImm) → Normal w n s r a → Normal w n s r b → a ≡ b
-normal-one w n s r (ok f) (ok g) a b = ap ok (a .2 ∙ sym (b .2))
-normal-one w n s r (ok f) (no k) a b = not-refused (a .0) (λ none. none (a .1)) b
-normal-one w n s r (no k) (ok g) a b = not-refused (b .0) (λ none. none (b .1)) a
-normal-one w n s r (no j) (no k) a b = ap no (one-number a b)
-
--- ---- decoding, then encoding
-
--- the fields with R reduced are legal and decode to the same mask
-pub reduced : {w n s r m : ℕ} → Decodes w n s r m → Decodes w n s (r % esize n s) m
-reduced {w} {n} {s} {r} h =
-    let a = h .legal in
-    let low : r % esize n s ≤ 63 = omega (arith, mod-le r (esize n s), a .r-bits) in
-    record {
-      legal = record { n-bits = a .n-bits; s-bits = a .s-bits; r-bits = low; some-len = a .some-len; not-all = a .not-all; narrow = a .narrow };
-      mask = turn-mask w n s r ∙ h .mask;
-    }
-
-pub again : (w n s r m : ℕ) → Decoded w n s r (ok m) → Encoded w m (ok (fields n s (r % esize n s)))
-again w n s r m d =
-    let a = shape (d .0) (d .1 .legal) in
-    let low : m % 2 ^ w ≡ m = rw (← d .1 .mask) (mod-eq-of-lt (lt-of-le-ones w (a .small))) in
-    (d .0, rw low (reduced (d .1)), a .turn)
-
--- normalising is decoding, then encoding
-pub normal-of : (w n s r m : ℕ) (a : Said LogicalImm) → Decoded w n s r (ok m) → Encoded w m a → Normal w n s r a
-normal-of w n s r m a d e =
-    let is : a ≡ ok (fields n s (r % esize n s)) = encoded-one w m a _ e (again w n s r m d) in
-    subst⁻¹ (λ (b : Said LogicalImm). Normal w n s r b) is (d .0, d .1 .legal, refl)
 
 -- ---- from a run to the encoder's answer
 

@@ -1,9 +1,8 @@
--- The laws of the entries for logical immediates, for the proofs of other crates.
+-- The laws of the encoder, for the proofs of other crates.
 pub mod Demands
 pub mod Rules
 pub mod Determined
 pub mod Examples
 pub mod Model
-pub mod Word
 pub mod Laws
 pub mod Search

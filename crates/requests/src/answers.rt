@@ -6,7 +6,7 @@ use displacements::DistanceAnswer;
 use immediates::Imm8Answer;
 use lines::Answer;
 use logical::LogicalAnswer;
-use logical::MaskAnswer;
+use logical_decoder::MaskAnswer;
 use registers::ShiftAnswer;
 use simd::LmhAnswer;
 use simd::PickAnswer;
@@ -99,8 +99,8 @@ fn values(r: Request) -> Answer {
     let k = r.entry;
     match k {
         48 => fields(logical::encode_logical_imm(r.a, low(r.b))),
-        64 => mask(logical::decode_logical_imm(low(r.a), low(r.b), low(r.c), low(r.d))),
-        65 => fields(logical::normalise(low(r.a), low(r.b), low(r.c), low(r.d))),
+        64 => mask(logical_decoder::decode_logical_imm(low(r.a), low(r.b), low(r.c), low(r.d))),
+        65 => fields(logical_decoder::normalise(low(r.a), low(r.b), low(r.c), low(r.d))),
         82 => one(low(moves::count_zero_half_words_64(r.a) as u64)),
         _ => Answer::No(Refusal::Unknown),
     }

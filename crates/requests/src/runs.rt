@@ -134,7 +134,7 @@ fn put(r: Request, run: &mut [u32]) -> Written {
 
 fn logical_word(r: Request, run: &mut [u32]) -> Written {
     let at = WordPos(r.g as usize);
-    logical::emit_logical_imm(run, at, low(r.a), low(r.b), r.c, low(r.d), low(r.e))
+    logical_words::emit_logical_imm(run, at, low(r.a), low(r.b), r.c, low(r.d), low(r.e))
 }
 
 fn move_to(r: Request, run: &mut [u32]) -> Written {

@@ -1,5 +1,5 @@
 -- `host::vaimalofo_logical_word` meets its contract. Assumes nothing.
-use Rattle.logical.proofs.Word.{word-listed}
+use Rattle.logical_words.proofs.Word.{word-listed}
 use Rattle.host.proofs.Laws.{asked}
 use borrow.Author.Needs.{needs}
 use Rattle.host.proofs.vaimalofo_logical_word.Statement.{statement}

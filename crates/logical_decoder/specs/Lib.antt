@@ -1,0 +1,2 @@
+-- What the decoder and the normaliser have to say.
+pub mod Answer

@@ -1,0 +1,133 @@
+-- The cases of the logical word. Assumes nothing.
+use mathlib.Core.Path.{_≡_, refl, sym, ap, _∙_, subst}
+use mathlib.Core.Bool.{Bool, true, false, cond, not, _||_}
+use mathlib.Core.Logic.{_⊎_, inl, inr, ⊎-elim}
+use mathlib.Core.List.{List, [], _∷_}
+use Prim.Native.Nat.{ℕ, _+_, _*_, _/_, _≤_, _<_}
+use native.Mathlib.Omega.{arith}
+use borrow.Author.Tests.{lt-ltb, le-ltb, ne-eqb, ltb-false}
+use lib.Dec.{eqb, ltb, eqb→eq}
+use lib.ListN.{getD}
+use Rattle.arm.specs.Bits.{bits}
+use Rattle.arm.specs.BitMasks.{IsWidth}
+use Rattle.arm.specs.MoveWide.{datasize}
+use Rattle.arm.proofs.Lengths.{at-widths}
+use Rattle.words.specs.Said.{Said, ok, no}
+use Rattle.words.specs.Listed.{listed, packed}
+use Rattle.words.specs.declared.Words.{Words}
+use Rattle.words.proofs.Answers.{Short, listed-packed, not-both}
+use Rattle.words.proofs.Table.{at}
+use Rattle.logical.specs.declared.LogicalImm.{LogicalImm}
+use Rattle.logical.proofs.Model.{encodeOf, the-answer}
+use Rattle.logical_words.specs.Word.{bases, baseOf, placedOf, filled, wordOf, ForWord}
+
+-- ---- the base: operations rise by 20000000 (hex)
+
+abbrev rises : ℕ → ℕ → Bool
+rises k x = eqb x (0x12000000 + k * 0x20000000)
+
+pub base-is : (operation w : ℕ) → operation ≤ 3 → IsWidth w → 0x12000000 + operation * 0x20000000 + w / 64 * 0x80000000 ≡ baseOf operation w
+base-is operation w h ww =
+    let row = eqb→eq (getD bases operation 0) _ (at {A = ℕ} rises 0 bases tt operation (omega arith)) in
+    let wide : w / 64 * 0x80000000 ≡ cond (eqb w 64) 0x80000000 0 = at-widths (λ (k : ℕ). k / 64 * 0x80000000 ≡ cond (eqb k 64) 0x80000000 0) refl refl w ww in
+    rw (row, wide)
+
+-- ---- the word
+
+module _ (operation w rn rd : ℕ) (a : Said LogicalImm) where
+  pub word-operation : 3 < operation → wordOf operation w rn rd a ≡ no 7
+  unfolding wordOf
+  word-operation h = simp (lt-ltb 3 operation h)
+
+  pub word-width : operation ≤ 3 → (IsWidth w → ⊥) → wordOf operation w rn rd a ≡ no 1
+  unfolding wordOf
+  word-width h none = simp (le-ltb 3 operation h, ne-eqb w 32 (λ e. none (inl e)), ne-eqb w 64 (λ e. none (inr e)))
+
+  width-is : IsWidth w → eqb w 32 || eqb w 64 ≡ true
+  width-is ww = at-widths (λ (k : ℕ). (eqb k 32 || eqb k 64) ≡ true) refl refl w ww
+
+  pub word-register : operation ≤ 3 → IsWidth w → (31 < rn) ⊎ (31 < rd) → wordOf operation w rn rd a ≡ no 2
+  unfolding wordOf
+  word-register h ww high =
+      let past : ltb 31 rn || ltb 31 rd ≡ true = ⊎-elim (λ (k : 31 < rn). simp (lt-ltb 31 rn k)) (λ (k : 31 < rd). either (ltb 31 rn) (lt-ltb 31 rd k)) high in
+      simp (le-ltb 3 operation h, width-is ww, past)
+    where
+      either : (b : Bool) {c : Bool} → c ≡ true → b || c ≡ true
+      either true q = refl
+      either false q = q
+
+  pub word-filled : operation ≤ 3 → IsWidth w → rn ≤ 31 → rd ≤ 31 → wordOf operation w rn rd a ≡ filled (baseOf operation w) rn rd a
+  unfolding wordOf
+  word-filled h ww n d = simp (le-ltb 3 operation h, width-is ww, le-ltb 31 rn n, le-ltb 31 rd d)
+
+-- a word is made only of numbers that are allowed and fields that the encoder gives
+pub record Made (operation w rn rd x : ℕ) (a : Said LogicalImm) : Type 0 where
+  pub known : operation ≤ 3
+  pub rn-low : rn ≤ 31
+  pub rd-low : rd ≤ 31
+  pub f : LogicalImm
+  pub given : a ≡ ok f
+  pub word : x ≡ placedOf (baseOf operation w) f rn rd
+
+pub word-made : (operation w rn rd x : ℕ) (a : Said LogicalImm) → wordOf operation w rn rd a ≡ ok (x ∷ []) → Made operation w rn rd x a
+unfolding wordOf
+word-made operation w rn rd x a = go (ltb 3 operation) (not (eqb w 32 || eqb w 64)) (ltb 31 rn) (ltb 31 rd) a refl refl refl
+  where
+    go : (b c d e : Bool) (a : Said LogicalImm) → ltb 3 operation ≡ b → ltb 31 rn ≡ d → ltb 31 rd ≡ e
+        → cond b (no 7) (cond c (no 1) (cond (d || e) (no 2) (filled (baseOf operation w) rn rd a))) ≡ ok (x ∷ []) → Made operation w rn rd x a
+    go true c d e a p q r h = absurd (not-both (sym h))
+    go false true d e a p q r h = absurd (not-both (sym h))
+    go false false true e a p q r h = absurd (not-both (sym h))
+    go false false false true a p q r h = absurd (not-both (sym h))
+    go false false false false (ok f) p q r h =
+        record { known = ltb-false 3 operation p; rn-low = ltb-false 31 rn q; rd-low = ltb-false 31 rd r; f = f; given = refl; word = cc }
+    go false false false false (no k) p q r h = absurd (not-both (sym h))
+
+-- what holds of the word from some answer of the encoder holds of the one that is computed
+pub word-computed : (operation w v rn rd : ℕ) (P : Said (List ℕ) → Type 0) → ForWord operation w v rn rd P → P (wordOf operation w rn rd (encodeOf w v))
+word-computed operation w v rn rd P h = subst (λ (a : Said LogicalImm). P (wordOf operation w rn rd a)) (the-answer w v (h .0) (h .1)) (h .2)
+
+-- no more words than a value holds
+word-short : (operation w rn rd : ℕ) (a : Said LogicalImm) → Short (wordOf operation w rn rd a)
+unfolding wordOf
+word-short operation w rn rd a = go (ltb 3 operation) (not (eqb w 32 || eqb w 64)) (ltb 31 rn || ltb 31 rd) a
+  where
+    go : (b c d : Bool) (a : Said LogicalImm) → Short (cond b (no 7) (cond c (no 1) (cond d (no 2) (filled (baseOf operation w) rn rd a))))
+    go true c d a = tt
+    go false true d a = tt
+    go false false true a = tt
+    go false false false (ok f) = omega arith
+    go false false false (no k) = tt
+
+-- the word by value, as a list
+pub word-listed : (operation w rn rd : ℕ) (a : Said LogicalImm) {x : Said Words} → x ≡ packed (wordOf operation w rn rd a) → listed x ≡ wordOf operation w rn rd a
+word-listed operation w rn rd a q = ap listed q ∙ listed-packed (wordOf operation w rn rd a) (word-short operation w rn rd a)
+
+-- ---- the word, read as Arm's "Logical (immediate)": sf 31, opc 30:29, 100100 at 28:23, N 22, immr 21:16, imms 15:10, Rn 9:5, Rd 4:0
+
+pub record Fields (x operation w n s r rn rd : ℕ) : Type 0 where
+  pub sf : datasize (bits 31 31 x) ≡ w
+  pub opc : bits 30 29 x ≡ operation
+  pub fixed : bits 28 23 x ≡ 0b100100
+  pub N : bits 22 22 x ≡ n
+  pub immr : bits 21 16 x ≡ r
+  pub imms : bits 15 10 x ≡ s
+  pub Rn : bits 9 5 x ≡ rn
+  pub Rd : bits 4 0 x ≡ rd
+
+pub read-back : (operation w rn rd : ℕ) (f : LogicalImm) → operation ≤ 3 → IsWidth w → f .n ≤ 1 → f .s ≤ 63 → f .r ≤ 63 → rn ≤ 31 → rd ≤ 31
+    → Fields (placedOf (baseOf operation w) f rn rd) operation w (f .n) (f .s) (f .r) rn rd
+read-back operation w rn rd f o ww hn hs hr n d =
+    let wide : w / 64 ≤ 1 = at-widths (λ (k : ℕ). k / 64 ≤ 1) (omega arith) (omega arith) w ww in
+    let size : datasize (w / 64) ≡ w = at-widths (λ (k : ℕ). datasize (k / 64) ≡ k) refl refl w ww in
+    rw (← base-is operation w o ww)
+    (record {
+      sf = ap datasize (omega arith) ∙ size;
+      opc = omega arith;
+      fixed = omega arith;
+      N = omega arith;
+      immr = omega arith;
+      imms = omega arith;
+      Rn = omega arith;
+      Rd = omega arith;
+    })

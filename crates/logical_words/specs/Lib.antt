@@ -1,0 +1,2 @@
+-- The logical word, from what the encoder says.
+pub mod Word

@@ -1,0 +1,75 @@
+// Module 3's logical word: an operation, two registers and the fields of a value in one instruction word.
+use logical::LogicalAnswer;
+use logical::LogicalImm;
+use words::Refusal;
+use words::WordPos;
+use words::Worded;
+use words::Words;
+use words::Written;
+ghost use mathlib.Core.Path.{_≡_};
+ghost use Prim.Native.Nat.{_%_, _^_, _≤_};
+ghost use Rattle.arm.specs.BitMasks.{IsWidth};
+ghost use Rattle.words.specs.Answer.{said, made};
+ghost use Rattle.words.specs.Listed.{packed};
+ghost use Rattle.writers.specs.Put.{putOf};
+ghost use Rattle.logical_words.specs.Word.{baseOf, placedOf, ForWord};
+
+// AND, ORR, EOR, ANDS, at width 32 or 64.
+fn base(operation: u32, width: u32) -> u32
+    requires { ⌜ (operation ≤ 3) × IsWidth width × (width ≤ 64) ⌝ }
+    ensures { λ r. ⌜ (r ≡ baseOf operation width) × (r % 2 ^ 23 ≡ 0) ⌝ }
+{
+    0x1200_0000 + operation * 0x2000_0000 + width / 64 * 0x8000_0000
+}
+
+// The fields and the registers in a base word.
+fn placed(base: u32, f: LogicalImm, rn: u32, rd: u32) -> u32
+    requires { ⌜ (base % 2 ^ 23 ≡ 0) × (f .n ≤ 1) × (f .s ≤ 63) × (f .r ≤ 63) × (rn ≤ 31) × (rd ≤ 31) ⌝ }
+    ensures { λ r. ⌜ r ≡ placedOf base f rn rd ⌝ }
+{
+    base + f.n * 4194304 + f.r * 65536 + f.s * 1024 + rn * 32 + rd
+}
+
+// The logical word of a value, for a writer.
+pub fn logical_word(operation: u32, width: u32, imm: u64, rn: u32, rd: u32) -> Worded
+    ensures { λ r. ⌜ ForWord operation width imm rn rd (λ x. made r ≡ packed x) ⌝ }
+{
+    if 3 < operation {
+        return Worded::Not(Refusal::Unknown);
+    }
+    match width {
+        32 | 64 => {}
+        _ => return Worded::Not(Refusal::Width),
+    }
+    if 31 < rn {
+        return Worded::Not(Refusal::Register);
+    }
+    if 31 < rd {
+        return Worded::Not(Refusal::Register);
+    }
+    match logical::encode_logical_imm(imm, width) {
+        LogicalAnswer::Fields(f) => Worded::Made(Words {
+            count: 1,
+            a: placed(base(operation, width), f, rn, rd),
+            b: 0,
+            c: 0,
+            d: 0,
+        }),
+        LogicalAnswer::NoFields(r) => Worded::Not(r),
+    }
+}
+
+// The logical word of a value, written at a position.
+pub fn emit_logical_imm(
+    words: &mut [u32],
+    at: WordPos,
+    operation: u32,
+    width: u32,
+    imm: u64,
+    rn: u32,
+    rd: u32,
+) -> Written
+    ensures { λ r. ⌜ ForWord operation width imm rn rd (λ x. (said r, now (words .exit)) ≡ putOf (now (words .entry)) (at .0) x) ⌝ }
+{
+    writers::put(words, at, logical_word(operation, width, imm, rn, rd))
+}
