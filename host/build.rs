@@ -5,10 +5,6 @@ use std::path::{Path, PathBuf};
 use std::process::Command;
 use std::{env, fs};
 
-/// The crates that the entries are made of.
-const CRATES: [&str; 7] =
-    ["arm", "words", "logical", "logical_words", "moves", "displacements", "host"];
-
 fn main() {
     if let Err(why) = build() {
         println!("cargo::error=vaimalofo: {why}");
@@ -21,9 +17,8 @@ fn build() -> Result<(), String> {
         return Err(format!("the entries are compiled for x86-64 Linux, not for {arch} {os}"));
     }
     let top = Path::new(&variable("CARGO_MANIFEST_DIR")?).join("..");
-    println!("cargo::rerun-if-changed={}", top.join("crates.txt").display());
-    for name in CRATES {
-        println!("cargo::rerun-if-changed={}", top.join("crates").join(name).display());
+    for watched in ["crates.txt", "crates"] {
+        println!("cargo::rerun-if-changed={}", top.join(watched).display());
     }
     prove(&top)?;
     let (from, out) = (top.join("target/staticlib/libhost.a"), PathBuf::from(variable("OUT_DIR")?));
