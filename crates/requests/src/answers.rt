@@ -3,15 +3,15 @@ use crate::Request;
 use crate::low;
 use crate::wide;
 use displacements::DistanceAnswer;
+use fp_picks::PickAnswer;
 use immediates::Imm8Answer;
 use lines::Answer;
 use logical::LogicalAnswer;
 use logical_decoder::MaskAnswer;
 use registers::ShiftAnswer;
 use simd::LmhAnswer;
-use simd::PickAnswer;
-use simd::SizeOpAnswer;
-use simd::SizeOpMap;
+use size_ops::SizeOpAnswer;
+use size_ops::SizeOpMap;
 use words::Opc;
 use words::Refusal;
 use words::Words;
@@ -161,7 +161,7 @@ fn size_op(r: Request) -> Answer {
         size_op_mask: low(r.b),
         accept_mask: low(r.c),
     };
-    match simd::element_type_to_size_op(map, low(r.d), low(r.e)) {
+    match size_ops::element_type_to_size_op(map, low(r.d), low(r.e)) {
         SizeOpAnswer::SizeOp(x) => one(x),
         SizeOpAnswer::NoSizeOp(n) => Answer::No(n),
     }
@@ -186,7 +186,7 @@ fn sizes(r: Request) -> Answer {
     match k {
         144 => lmh(simd::encode_lmh(low(r.a), low(r.b))),
         145 => size_op(r),
-        146 => pick(simd::pick_fp_opcode(
+        146 => pick(fp_picks::pick_fp_opcode(
             low(r.a),
             low(r.b),
             Opc(low(r.d)),

@@ -1,12 +1,17 @@
--- Numbers from a first to a last one; bit 30; the rule of the size-op tables. Assumes nothing.
+-- The two sides of a test; numbers from a first to a last one. Assumes nothing.
 use mathlib.Core.Path.{_≡_, refl}
 use mathlib.Core.Bool.{Bool, true, false, cond, _&&_}
-use Prim.Native.Nat.{ℕ, zero, suc, _+_, _*_, _^_, _≤_}
+use Prim.Native.Nat.{ℕ, _≤_}
 use borrow.Author.Tests.{le-leb, leb-true}
 use native.Mathlib.Omega.{arith}
-use lib.Bits.{bitOr, or-zero-r}
-use lib.Dec.{eqb, leb}
-use Rattle.simd.specs.Kinds.{Vec64, Vec128, within}
+use lib.Dec.{leb}
+use Rattle.simd.specs.Kinds.{within}
+
+-- what holds of both sides of a test, each where the test comes out so
+module _ {A : Type 0} (P : A → Type 0) where
+  pub either : (t : Bool) (x y : A) → (t ≡ true → P x) → (t ≡ false → P y) → P (cond t x y)
+  either true x y f g = f refl
+  either false x y f g = g refl
 
 module _ (first last x : ℕ) where
   pub inside : first ≤ x → x ≤ last → within first last x ≡ true
@@ -20,8 +25,10 @@ module _ (first last x : ℕ) where
       by true false p q = refl
       by false b p q = refl
 
--- the kind less Vec64, at bit 30
-pub bit-30 : (kind base q : ℕ) → q ≤ 1 → kind ≡ q + Vec64 → bitOr base (q * 2 ^ 30) ≡ cond (eqb kind Vec128) (bitOr base (2 ^ 30)) base
-bit-30 kind base zero h e = rw e (or-zero-r base)
-bit-30 kind base (suc zero) h e = rw e refl
-bit-30 kind base (suc (suc q)) h e = absurd (omega arith)
+pub second : (a b : Bool) → (a && b) ≡ true → b ≡ true
+second true b e = e
+second false b e = let z : _≡_ {A = ℕ} 0 1 = cc in absurd (omega arith)
+
+-- a number from first to last is at most the last
+pub last : (lo hi x : ℕ) → within lo hi x ≡ true → x ≤ hi
+last lo hi x w = leb-true x hi (second (leb lo x) (leb x hi) w)

@@ -1,6 +1,6 @@
--- The laws of SIMD sizes, and what the contracts amount to.
+-- The laws of kinds, elements and element indices, and what the contract amounts to.
 pub mod Laws
-pub mod Tables
+pub mod Alike
 pub mod Determined
 pub mod Demands
 pub mod Examples

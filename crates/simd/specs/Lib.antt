@@ -1,5 +1,3 @@
--- What the entries for SIMD sizes say.
+-- The numbers of kinds and elements, and what the entry for element indices says.
 pub mod Kinds
 pub mod Lmh
-pub mod SizeOp
-pub mod Pick

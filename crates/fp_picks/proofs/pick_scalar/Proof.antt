@@ -1,14 +1,14 @@
--- `simd::pick_scalar` meets its contract. Assumes nothing.
+-- `fp_picks::pick_scalar` meets its contract. Assumes nothing.
 use mathlib.Core.Path.{_≡_}
 use Prim.Native.Nat.{_-_}
 use native.Mathlib.Omega.{arith}
 use Rattle.simd.specs.Kinds.{Vec16, Vec64}
-use Rattle.simd.specs.Pick.{scalarOf}
 use Rattle.simd.proofs.Laws.{inside, outside}
+use Rattle.fp_picks.specs.Pick.{scalarOf}
 use borrow.Author.Tests.{lt-ltb, le-ltb}
 use borrow.Author.Needs.{needs}
-use Rattle.simd.proofs.pick_scalar.Statement.{statement}
-use Rattle.simd.proofs.pick_scalar.Tie as tie
+use Rattle.fp_picks.proofs.pick_scalar.Statement.{statement}
+use Rattle.fp_picks.proofs.pick_scalar.Tie as tie
 
 returns : tie.Need-returns
 unfolding scalarOf

@@ -1,8 +1,8 @@
--- `simd::fp_row` meets its contract: the rows are the document's. Assumes nothing.
+-- `fp_picks::fp_row` meets its contract: the rows are the document's. Assumes nothing.
 use mathlib.Core.Path.{refl}
 use borrow.Author.Needs.{needs}
-use Rattle.simd.proofs.fp_row.Statement.{statement}
-use Rattle.simd.proofs.fp_row.Tie as tie
+use Rattle.fp_picks.proofs.fp_row.Statement.{statement}
+use Rattle.fp_picks.proofs.fp_row.Tie as tie
 
 returns : tie.Need-returns
 returns c = refl

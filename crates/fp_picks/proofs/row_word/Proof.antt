@@ -1,10 +1,10 @@
--- `simd::row_word` meets its contract. Assumes nothing.
+-- `fp_picks::row_word` meets its contract. Assumes nothing.
 use mathlib.Core.Path.{sym, _∙_}
-use Rattle.simd.specs.Pick.{wordOf}
+use Rattle.fp_picks.specs.Pick.{wordOf}
 use borrow.Author.Tests.{eq-eqb, ne-eqb, not-true, not-false}
 use borrow.Author.Needs.{needs}
-use Rattle.simd.proofs.row_word.Statement.{statement}
-use Rattle.simd.proofs.row_word.Tie as tie
+use Rattle.fp_picks.proofs.row_word.Statement.{statement}
+use Rattle.fp_picks.proofs.row_word.Tie as tie
 
 returns : tie.Need-returns
 unfolding wordOf

@@ -8,9 +8,9 @@ use native.Mathlib.Omega.{arith}
 use lib.Dec.{T, eqb, ltb, eqb→eq}
 use lib.ListN.{length, getD}
 use Rattle.words.proofs.Table.{every, at}
-use Rattle.simd.specs.declared.SizeOps.{SizeOps}
+use Rattle.size_ops.specs.declared.SizeOps.{SizeOps}
 use Rattle.simd.specs.Kinds.{Vec8}
-use Rattle.simd.specs.SizeOp.{entryOf}
+use Rattle.size_ops.specs.SizeOp.{entryOf}
 
 -- the code's tables
 abbrev row : ℕ → ℕ → ℕ → ℕ → ℕ → SizeOps

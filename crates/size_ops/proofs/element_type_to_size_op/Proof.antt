@@ -1,10 +1,10 @@
--- `simd::element_type_to_size_op` meets its contract. Assumes nothing.
+-- `size_ops::element_type_to_size_op` meets its contract. Assumes nothing.
 use mathlib.Core.Path.{sym, _∙_}
-use Rattle.simd.specs.SizeOp.{acceptedOf, sizeOpOf}
+use Rattle.size_ops.specs.SizeOp.{acceptedOf, sizeOpOf}
 use borrow.Author.Tests.{lt-ltb, le-ltb}
 use borrow.Author.Needs.{needs}
-use Rattle.simd.proofs.element_type_to_size_op.Statement.{statement}
-use Rattle.simd.proofs.element_type_to_size_op.Tie as tie
+use Rattle.size_ops.proofs.element_type_to_size_op.Statement.{statement}
+use Rattle.size_ops.proofs.element_type_to_size_op.Tie as tie
 
 returns : tie.Need-returns
 unfolding sizeOpOf

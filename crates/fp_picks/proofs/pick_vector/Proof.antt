@@ -1,14 +1,15 @@
--- `simd::pick_vector` meets its contract. Assumes nothing.
+-- `fp_picks::pick_vector` meets its contract. Assumes nothing.
 use mathlib.Core.Path.{_≡_}
 use Prim.Native.Nat.{_+_, _-_}
 use native.Mathlib.Omega.{arith}
 use Rattle.simd.specs.Kinds.{Vec64, Vec128, H, D}
-use Rattle.simd.specs.Pick.{vectorOf}
-use Rattle.simd.proofs.Laws.{inside, outside, bit-30}
+use Rattle.simd.proofs.Laws.{inside, outside}
+use Rattle.fp_picks.specs.Pick.{vectorOf}
+use Rattle.fp_picks.proofs.Laws.{bit-30}
 use borrow.Author.Tests.{lt-ltb, le-ltb}
 use borrow.Author.Needs.{needs}
-use Rattle.simd.proofs.pick_vector.Statement.{statement}
-use Rattle.simd.proofs.pick_vector.Tie as tie
+use Rattle.fp_picks.proofs.pick_vector.Statement.{statement}
+use Rattle.fp_picks.proofs.pick_vector.Tie as tie
 
 returns : tie.Need-returns
 unfolding vectorOf

@@ -8,9 +8,9 @@ use lib.ListN.{getD}
 use Rattle.words.specs.Said.{Said, ok, no}
 use Rattle.words.specs.Answer.{numberOf}
 use Rattle.words.specs.Bit.{bitOf}
-use Rattle.simd.specs.declared.SizeOpAnswer.{SizeOpAnswer}
-use Rattle.simd.specs.declared.SizeOpAnswer.the-variants.{SizeOp, NoSizeOp}
+use Rattle.size_ops.specs.declared.SizeOpAnswer.{SizeOpAnswer}
+use Rattle.size_ops.specs.declared.SizeOpAnswer.the-variants.{SizeOp, NoSizeOp}
 use Rattle.simd.specs.Kinds.{Vec8, Vec64, Vec128, none, B, D, within}
 
 -- the size op, FF among them, or the number of a refusal
 abbrev pub sizeOpSaid : SizeOpAnswer → Said ℕ

@@ -8,10 +8,10 @@ use lib.ListN.{getD}
 use Rattle.words.specs.Said.{Said, ok, no}
 use Rattle.words.specs.Answer.{numberOf}
 use Rattle.words.specs.Bit.{bitOf}
-use Rattle.simd.specs.declared.FpRow.{FpRow}
-use Rattle.simd.specs.declared.PickAnswer.{PickAnswer}
-use Rattle.simd.specs.declared.PickAnswer.the-variants.{Picked, NoPick}
+use Rattle.fp_picks.specs.declared.FpRow.{FpRow}
+use Rattle.fp_picks.specs.declared.PickAnswer.{PickAnswer}
+use Rattle.fp_picks.specs.declared.PickAnswer.the-variants.{Picked, NoPick}
 use Rattle.simd.specs.Kinds.{Vec16, Vec64, Vec128, none, H, D, within}
 
 -- "the word and the size, 0, 1 or 2"
 abbrev pub pickSaid : PickAnswer → Said (ℕ × ℕ)

@@ -1,9 +1,9 @@
--- `simd::pick_fp_opcode` meets its contract. Assumes nothing.
-use Rattle.simd.specs.Pick.{pickOf}
+-- `fp_picks::pick_fp_opcode` meets its contract. Assumes nothing.
+use Rattle.fp_picks.specs.Pick.{pickOf}
 use borrow.Author.Tests.{lt-ltb, le-ltb, eq-eqb, ne-eqb}
 use borrow.Author.Needs.{needs}
-use Rattle.simd.proofs.pick_fp_opcode.Statement.{statement}
-use Rattle.simd.proofs.pick_fp_opcode.Tie as tie
+use Rattle.fp_picks.proofs.pick_fp_opcode.Statement.{statement}
+use Rattle.fp_picks.proofs.pick_fp_opcode.Tie as tie
 
 returns : tie.Need-returns
 unfolding pickOf

@@ -1,11 +1,11 @@
--- `simd::size_op_entry` meets its contract. Assumes nothing.
+-- `size_ops::size_op_entry` meets its contract. Assumes nothing.
 use mathlib.Core.Path.{_≡_}
 use mathlib.Core.Logic.{⊎-elim}
 use native.Mathlib.Omega.{arith}
-use Rattle.simd.proofs.Tables.{slotOf, slot-in, slot-out, rule}
+use Rattle.size_ops.proofs.Tables.{slotOf, slot-in, slot-out, rule}
 use borrow.Author.Needs.{needs}
-use Rattle.simd.proofs.size_op_entry.Statement.{statement}
-use Rattle.simd.proofs.size_op_entry.Tie as tie
+use Rattle.size_ops.proofs.size_op_entry.Statement.{statement}
+use Rattle.size_ops.proofs.size_op_entry.Tie as tie
 
 add-row : tie.Need-add-row
 add-row c = ⊎-elim (λ w. record { fits = omega arith }) (λ w. record { fits = omega arith }) (c .before .if1 .came)

@@ -1,0 +1,2 @@
+-- What the entry for opcode picks says.
+pub mod Pick

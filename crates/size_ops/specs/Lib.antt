@@ -1,0 +1,2 @@
+-- What the entry for size ops says.
+pub mod SizeOp
