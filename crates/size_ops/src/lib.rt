@@ -5,9 +5,6 @@ ghost use Prim.Native.Nat.{_<_};
 ghost use Rattle.size_ops.specs.SizeOp.{sizeOpSaid, entryOf, sizeOpOf};
 use words::Refusal;
 
-// The kind that the tables' rows are counted from.
-const VEC8: u32 = 3;
-
 // The map entry of an instruction: the table, the bits that its size op keeps, and the size ops that it accepts.
 pub struct SizeOpMap {
     pub table_id: u32,
@@ -20,61 +17,35 @@ pub enum SizeOpAnswer {
     NoSizeOp(Refusal),
 }
 
-// The size ops of a kind's eight elements.
-struct SizeOps {
-    ops: [u32; 8],
-}
-
-// Tables 0 and 1, each of six rows: Vec8, Vec16, Vec32, Vec64, Vec128 and every other kind.
-const SIZE_OP_TABLES: [SizeOps; 12] = [
-    SizeOps {
-        ops: [255, 255, 255, 255, 255, 255, 255, 255],
-    },
-    SizeOps {
-        ops: [255, 255, 255, 255, 255, 255, 255, 255],
-    },
-    SizeOps {
-        ops: [255, 255, 255, 255, 255, 255, 255, 255],
-    },
-    SizeOps {
-        ops: [0, 0, 255, 255, 255, 255, 255, 255],
-    },
-    SizeOps {
-        ops: [1, 1, 255, 255, 255, 255, 255, 255],
-    },
-    SizeOps {
-        ops: [255, 255, 255, 255, 255, 255, 255, 255],
-    },
-    SizeOps {
-        ops: [2, 255, 255, 255, 255, 255, 255, 255],
-    },
-    SizeOps {
-        ops: [6, 255, 255, 255, 255, 255, 255, 255],
-    },
-    SizeOps {
-        ops: [10, 255, 255, 255, 255, 255, 255, 255],
-    },
-    SizeOps {
-        ops: [14, 0, 4, 8, 14, 255, 255, 255],
-    },
-    SizeOps {
-        ops: [255, 1, 5, 9, 13, 255, 255, 255],
-    },
-    SizeOps {
-        ops: [255, 255, 255, 255, 255, 255, 255, 255],
-    },
+// A row for each kind 0 to 7 in table 0, then in table 1. The bytes of a row, from the low one on, are the size ops of the elements 0 to 7.
+const SIZE_OP_ROWS: [u64; 16] = [
+    // table 0, the last two Vec64 and Vec128
+    0xFFFF_FFFF_FFFF_FFFF,
+    0xFFFF_FFFF_FFFF_FFFF,
+    0xFFFF_FFFF_FFFF_FFFF,
+    0xFFFF_FFFF_FFFF_FFFF,
+    0xFFFF_FFFF_FFFF_FFFF,
+    0xFFFF_FFFF_FFFF_FFFF,
+    0xFFFF_FFFF_FFFF_0000,
+    0xFFFF_FFFF_FFFF_0101,
+    // table 1, the last five Vec8 to Vec128
+    0xFFFF_FFFF_FFFF_FFFF,
+    0xFFFF_FFFF_FFFF_FFFF,
+    0xFFFF_FFFF_FFFF_FFFF,
+    0xFFFF_FFFF_FFFF_FF02,
+    0xFFFF_FFFF_FFFF_FF06,
+    0xFFFF_FFFF_FFFF_FF0A,
+    0xFFFF_FF0E_0804_000E,
+    0xFFFF_FF0D_0905_01FF,
 ];
 
-// The entry of a table. Of the Rust's 240 entries only the first 48 can be reached, since an element is below 8.
+// The entry of a table. Of the Rust's 240 entries only the first 48 can be reached, since an element is below 8; its kinds 0 to 2 share a row.
 fn size_op_entry(table: u32, kind: u32, element: u32) -> u32
     requires { ⌜ (table < 2) × (kind < 8) × (element < 8) ⌝ }
     ensures { λ r. ⌜ r ≡ entryOf table kind element ⌝ }
 {
-    let a = std::num::wrapping_sub_u32(kind, VEC8);
-    let clamped = if a < 5 { a } else { 5 };
-    let row = SIZE_OP_TABLES[(table * 6 + clamped) as usize];
-    let i = element as usize;
-    row.ops[i]
+    let row = SIZE_OP_ROWS[(table * 8 + kind) as usize];
+    ((row >> (8 * element)) % 256) as u32
 }
 
 // The size op of a kind and an element; FF where the map does not accept it.
