@@ -11,7 +11,7 @@ use lib.ListN.{getD}
 use Rattle.words.specs.Bit.{bitOf}
 use Rattle.words.specs.Said.{ok, no}
 use Rattle.simd.specs.Kinds.{Vec16, Vec64, Vec128, none, H, D, within}
-use Rattle.simd.proofs.Alike.{allAlike}
+use Rattle.words.proofs.Alike.{allAlike}
 use Rattle.fp_picks.specs.Pick.{rowAt, wordOf, scalarOf, vectorOf, pickOf}
 
 -- ---- what is refused

@@ -1,13 +1,14 @@
 -- Document 01's examples of module 8 and some neighbours: the one answer that each contract allows, computed. Assumes nothing.
 use mathlib.Core.Path.{_≡_, refl}
-use mathlib.Core.Bool.{Bool, true, false, cond, _&&_}
-use mathlib.Core.List.{List, [], _∷_}
+use mathlib.Core.Bool.{Bool, true, false, cond}
+use mathlib.Core.List.{[], _∷_}
 use mathlib.Core.Logic.{inl, inr, ⊎-elim}
 use Prim.Native.Nat.{ℕ, _%_, _^_}
 use borrow.Author.Tests.{eqb-true, eqb-false}
 use lib.Dec.{T, eqb}
 use Rattle.arm.proofs.Expand.{readFloat, readMask, floatSum, maskSum}
 use Rattle.words.specs.Said.{Said, ok, no}
+use Rattle.words.proofs.Alike.{allAlike}
 use Rattle.immediates.specs.Says.{FloatSays, MaskSays}
 use Rattle.immediates.specs.Steps.{settled}
 use Rattle.immediates.proofs.Laws.{fp16, fp32, fp64, mask}
@@ -56,18 +57,8 @@ unfolding readMask maskSum
 ends a s = mask-of 0xFF000000000000FF a s
 
 -- neighbours, in one test
-abbrev same : Said ℕ → Said ℕ → Bool
-same (ok a) (ok b) = eqb a b
-same (ok a) (no n) = false
-same (no m) (ok b) = false
-same (no m) (no n) = eqb m n
-
-abbrev allSame : List (Said ℕ × Said ℕ) → Bool
-allSame [] = true
-allSame ((a, b) ∷ ps) = same a b && allSame ps
-
 pub all-right :
-    T (allSame
+    T (allAlike eqb
     ((floatOf 64 0xC03F000000000000, ok 191)  -- -31.0
     ∷ (floatOf 64 0x3FF0000000000001, no 3)  -- a fraction bit below
     ∷ (floatOf 64 0x7FF0000000000000, no 3)  -- infinity: a wrong run of the exponent

@@ -8,9 +8,10 @@ use lib.Dec.{T, lit<, lit≤}
 use Rattle.arm.specs.Bits.{Replicate}
 use Rattle.arm.specs.BitMasks.{IsWidth, highestSetBit, len, esize, wmask}
 use Rattle.words.specs.Said.{Said, ok}
+use Rattle.words.proofs.Alike.{allAlike}
 use Rattle.logical.specs.Answer.{fields}
 use Rattle.logical.specs.declared.LogicalImm.{LogicalImm}
-use Rattle.logical.proofs.Examples.{allSame}
+use Rattle.logical.proofs.Examples.{same}
 use Rattle.logical.proofs.Model.{encodeOf, the-answer}
 use Rattle.logical_decoder.specs.Answer.{Decoded, Normal}
 use Rattle.logical_decoder.proofs.Laws.{again}
@@ -20,7 +21,7 @@ abbrev pub normalOf : ℕ → ℕ → ℕ → ℕ → Said LogicalImm
 normalOf w n s r = encodeOf w (wmask w n s r)
 
 pub examples :
-    T (allSame
+    T (allAlike same
     ((normalOf 64 0 60 5, ok (fields 0 60 1))
     ∷ (normalOf 32 0 60 5, ok (fields 0 60 1))
     ∷ []))

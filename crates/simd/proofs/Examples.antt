@@ -6,7 +6,7 @@ use lib.Dec.{T, eqb}
 use Rattle.words.specs.Said.{Said, ok, no}
 use Rattle.simd.specs.declared.Lmh.{Lmh}
 use Rattle.simd.specs.Lmh.{lmhOf}
-use Rattle.simd.proofs.Alike.{allAlike}
+use Rattle.words.proofs.Alike.{allAlike}
 
 abbrev sameLmh : Lmh → Lmh → Bool
 sameLmh f g = eqb (f .lm) (g .lm) && eqb (f .h) (g .h) && eqb (f .«max_rm_id») (g .«max_rm_id»)

@@ -1,6 +1,5 @@
 -- The laws of kinds, elements and element indices, and what the contract amounts to.
 pub mod Laws
-pub mod Alike
 pub mod Determined
 pub mod Demands
 pub mod Examples

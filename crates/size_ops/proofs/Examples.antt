@@ -2,7 +2,7 @@
 use mathlib.Core.List.{[], _∷_}
 use lib.Dec.{T, eqb}
 use Rattle.words.specs.Said.{ok, no}
-use Rattle.simd.proofs.Alike.{allAlike}
+use Rattle.words.proofs.Alike.{allAlike}
 use Rattle.size_ops.specs.SizeOp.{entryOf, acceptedOf, sizeOpOf}
 
 -- with every bit accepted and kept, and with some

@@ -1,4 +1,5 @@
 -- The laws of words, fields, answers and tables, for the proofs of other crates.
+pub mod Alike
 pub mod Answers
 pub mod Determined
 pub mod Fields
