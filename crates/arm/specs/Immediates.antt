@@ -1,7 +1,7 @@
 -- Arm's VFPExpandImm (shared pseudocode): the float of N bits that an 8-bit immediate stands for; and the byte mask of AdvSIMDExpandImm.
 -- Assumes nothing.
 use mathlib.Core.Bool.{cond}
-use Prim.Native.Nat.{ℕ, zero, suc, _+_, _-_, _*_, _/_, _%_, _^_}
+use Prim.Native.Nat.{ℕ, zero, suc, _-_, _/_}
 use lib.Dec.{eqb}
 use Rattle.arm.specs.Bits.{bits, join, Replicate}
 

@@ -1,13 +1,11 @@
 -- A signed distance and its 64 bits: on the step, and in reach. Assumes nothing.
 use mathlib.Core.Path.{_≡_}
-use mathlib.Core.Bool.{true, false}
 use Prim.Native.Nat.{ℕ, suc, _+_, _-_, _*_, _/_, _%_, _^_, _<_, _≤_, _∣_}
 use native.Mathlib.Nat.{dvd-sub, dvd-of-mod-eq-zero, mod-eq-zero-of-dvd, dvd-mul-left}
 use native.Mathlib.Omega.{arith}
-use borrow.Author.Tests.{ltb-true}
 use lib.IntN.{ℤ, pos, negsuc, natAbs}
 use lib.Pow.{pow-mono, mod-pow-add}
-use lib.Signed.{mag, ltZ}
+use lib.Signed.{mag}
 use mir.Syntax.{w64}
 use mir.Val.{SFits, ofZ}
 use Rattle.arm.proofs.SignExtends.{power, double, shr-zero, shr-more}

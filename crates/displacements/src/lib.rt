@@ -8,8 +8,6 @@ use words::Words;
 use words::Written;
 ghost use mathlib.Core.Path.{_≡_};
 ghost use Prim.Native.Nat.{_^_, _<_};
-ghost use mir.Syntax.{w64};
-ghost use mir.Val.{toZ, ofZ};
 ghost use Rattle.words.specs.Answer.{said, made};
 ghost use Rattle.words.specs.Listed.{packed};
 ghost use Rattle.writers.specs.Put.{putOf};

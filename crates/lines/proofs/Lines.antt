@@ -9,7 +9,7 @@ use lib.Seq.{sets}
 use Rattle.words.specs.Listed.{listOf}
 use Rattle.words.specs.declared.Words as w
 use Rattle.words.specs.Answer.{numberOf}
-use Rattle.lines.specs.Item.{Item, words, numbers, no, badMark, cutAt, itemsOf}
+use Rattle.lines.specs.Item.{Item, itemsOf}
 use Rattle.lines.specs.Text.{hex8, decimal, spaced, textOf, textsOf, lineAt}
 use Rattle.lines.specs.declared.Answer.{Answer}
 use Rattle.lines.specs.declared.Answer.the-variants.{Nothing, Words, Numbers, No, BadMark, Cut}
@@ -43,14 +43,6 @@ any-line (Numbers f) = simp length-append (omega (arith, decimal-length (listOf 
 any-line (No r) = simp length-append (omega (arith, short-all (numberOf r)))
 any-line (BadMark o) = simp length-append (omega (arith, short-all o))
 any-line (Cut o) = simp length-append (omega (arith, short-all o))
-
--- and none is empty: a place that has not moved shows that there was no room
-pub some-text : (i : Item) → 0 < length (textOf i)
-some-text (words ws) = omega arith
-some-text (numbers ns) = omega arith
-some-text (no n) = omega arith
-some-text (badMark o) = omega arith
-some-text (cutAt o) = omega arith
 
 pub texts-append : (a b : List Item) → textsOf (a ++ b) ≡ textsOf a ++ textsOf b
 texts-append [] b = refl

@@ -1,15 +1,14 @@
 -- An input block by block: each block but the last is whole records, and the lines of the blocks, one after the other, are the input's.
 -- Assumes nothing.
-use mathlib.Core.Path.{_≡_, refl, sym, ap, _∙_}
+use mathlib.Core.Path.{_≡_, ap, _∙_}
 use mathlib.Core.Bool.{Bool, true, false}
-use mathlib.Core.List.{List, [], _∷_, _++_, append-assoc, append-nil}
+use mathlib.Core.List.{List, _++_, append-assoc, append-nil}
 use Prim.Native.Nat.{ℕ, zero, suc, _+_, _*_, _/_, _%_, _^_, _≤_, _<_}
 use native.Mathlib.Nat.{add-zero, add-suc, mod-add-mod}
 use native.Mathlib.Omega.{arith}
 use lib.ListN.{length, take, drop, length-append, length-drop}
 use lib.Seq.{take-append-le, drop-append-le, drop-append-add}
 use Rattle.lines.specs.Item.{Item}
-use Rattle.records.specs.Records.{LineOf, tailOf}
 use Rattle.records.specs.Inputs.{recordAt, offsetAt, Told, none, more, Prints, whole, ended}
 
 -- the offset of a block's record

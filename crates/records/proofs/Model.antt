@@ -1,13 +1,12 @@
 -- A record's line and an input's lines as functions that antt computes, and that they are those which the definitions allow: every input prints
 -- something, and one thing only. Assumes nothing.
-use mathlib.Core.Path.{_≡_, refl, sym, ap, _∙_}
+use mathlib.Core.Path.{_≡_, refl, sym}
 use mathlib.Core.Bool.{Bool, true, false, cond}
 use mathlib.Core.List.{List, [], _∷_, _++_, append-assoc}
 use mathlib.Core.Logic.{inl, inr}
-use Prim.Native.Nat.{ℕ, zero, suc, _+_, _/_, _%_, _^_, _≤_}
+use Prim.Native.Nat.{ℕ, zero, suc, _+_, _/_, _%_, _^_}
 use native.Mathlib.Omega.{arith}
 use lib.ListN.{length}
-use Rattle.words.specs.Said.{Said}
 use Rattle.lines.specs.Item.{Item, no, badMark}
 use Rattle.logical.proofs.Model.{encodeOf, encode-right}
 use Rattle.moves.specs.Moves.{movSaid}
@@ -17,7 +16,7 @@ use Rattle.immediates.proofs.Examples.{floatOf}
 use Rattle.records.specs.Records.{Asked, move, fields, other, marked, kindOf, registerOf, valueOf, askedBy, wordsLine, fieldsLine, floatLine, Says, LineOf, tailOf}
 use Rattle.records.specs.Records as asked
 use Rattle.records.specs.Inputs.{recordAt, offsetAt, endsAt, Told, none, more, Prints, whole, ended}
-use Rattle.records.proofs.Determined.{line-one, prints-determined}
+use Rattle.records.proofs.Determined.{prints-determined}
 
 -- ---- a record
 
@@ -50,9 +49,6 @@ line-right r offset = go (marked r)
     go : (b : Bool) → cond b (Says k (registerOf r) (valueOf r) (cond b (saysOf k (registerOf r) (valueOf r)) (badMark offset))) (cond b (saysOf k (registerOf r) (valueOf r)) (badMark offset) ≡ badMark offset)
     go true = says-right k (registerOf r) (valueOf r)
     go false = refl
-
-pub the-line : (r : List ℕ) (offset : ℕ) (i : Item) → LineOf r offset i → i ≡ lineOf r offset
-the-line r offset i h = line-one r offset i (lineOf r offset) h (line-right r offset)
 
 -- ---- an input
 

@@ -1,8 +1,7 @@
 -- Each public entry's contract allows one answer. Assumes nothing.
-use mathlib.Core.Path.{_≡_, sym, ap, _∙_}
+use mathlib.Core.Path.{_≡_, sym, ap}
 use mathlib.Core.Bool.{Bool, _&&_}
 use Prim.Native.Nat.{ℕ}
-use Rattle.words.specs.Said.{Said, ok, no}
 use Rattle.words.proofs.Answers.{number-all, no-number, not-both}
 use Rattle.words.proofs.Determined.{one-answer}
 use Rattle.registers.specs.Checks.{gpOk, vecOk, condField}

@@ -1,7 +1,7 @@
 -- A refusal is known by its number, an answer by what it says, and words by their list. Assumes nothing.
 use mathlib.Core.Path.{_≡_, refl, sym, ap, _∙_}
 use mathlib.Core.List.{List, [], _∷_}
-use Prim.Native.Nat.{ℕ, suc, _≤_}
+use Prim.Native.Nat.{ℕ, _≤_}
 use native.Mathlib.Omega.{arith}
 use lib.ListN.{length, getD}
 use Rattle.words.specs.Said.{Said, ok, no}
@@ -9,8 +9,6 @@ use Rattle.words.specs.Answer.{numberOf, said, made}
 use Rattle.words.specs.Listed.{listOf, wordsOf, listed, packed}
 use Rattle.words.specs.declared.Refusal.{Refusal}
 use Rattle.words.specs.declared.Refusal.the-variants.{Width, Register, NoField, Step, Range, Taken, Unknown, NoRoom, Index, ZeroBase}
-use Rattle.words.specs.declared.WordPos.{WordPos}
-use Rattle.words.specs.declared.Words.{Words}
 use Rattle.words.specs.declared.Worded.{Worded}
 use Rattle.words.specs.declared.Worded.the-variants.{Made, Not}
 use Rattle.words.specs.declared.Written.{Written}

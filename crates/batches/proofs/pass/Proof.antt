@@ -4,7 +4,6 @@ use Prim.Native.Nat.{_-_, _≤_}
 use native.Mathlib.Omega.{arith}
 use lib.ListN.{length, length-take, length-drop}
 use Rattle.batches.proofs.Again.{never, Reached, started, reached, all-reached, progress}
-use borrow.Author.Needs.{needs}
 use Rattle.batches.proofs.pass.Statement.{statement}
 use Rattle.batches.proofs.pass.Tie as tie
 

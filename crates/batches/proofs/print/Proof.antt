@@ -1,16 +1,12 @@
 -- `batches::print` meets its contract. Assumes nothing.
-use mathlib.Core.Path.{_≡_, sym, ap, _∙_}
-use mathlib.Core.Bool.{true, false}
-use mathlib.Core.List.{List}
-use Prim.Native.Nat.{ℕ, _+_, _-_, _≤_, _<_}
+use mathlib.Core.Path.{sym, _∙_}
+use mathlib.Core.Bool.{false}
+use Prim.Native.Nat.{_+_, _-_, _≤_}
 use native.Mathlib.Omega.{arith}
-use lib.ListN.{length, take, drop, length-take, length-drop}
+use lib.ListN.{length, drop, length-take, length-drop}
 use lib.Seq.{take-take}
-use Rattle.records.specs.Records.{LineOf}
-use Rattle.records.specs.Answers.{OneLine}
 use Rattle.batches.specs.Printed.{Upto}
 use Rattle.batches.proofs.Again.{never, first, again}
-use borrow.Author.Needs.{needs}
 use Rattle.batches.proofs.print.Statement.{statement}
 use Rattle.batches.proofs.print.Tie as tie
 

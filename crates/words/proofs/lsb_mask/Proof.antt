@@ -1,9 +1,6 @@
 -- `words::lsb_mask` meets its contract. Assumes nothing.
-use mathlib.Core.Path.{_≡_, refl}
-use Prim.Native.Nat.{_*_, _%_, _^_, min}
-use native.Mathlib.Nat.{mod-eq-of-lt}
-use native.Mathlib.Omega.{arith}
-use lib.Pow.{pow-pos, pow-lt}
+use mathlib.Core.Path.{refl}
+use lib.Pow.{pow-pos}
 use Rattle.words.proofs.Low.{one-up, least-below, least-above}
 use borrow.Author.Needs.{needs}
 use Rattle.words.proofs.lsb_mask.Statement.{statement}
