@@ -7,10 +7,11 @@ use lib.IntN.{pos, negℤ}
 use Rattle.arm.specs.Bits.{Replicate}
 use Rattle.arm.specs.BitMasks.{highestSetBit, len, esize, wmask}
 use Rattle.words.specs.Said.{Said, ok, no}
+use Rattle.halfwords.specs.Halfwords.{count}
 use Rattle.logical.specs.declared.LogicalImm.{LogicalImm}
 use Rattle.logical.proofs.Model.{encodeOf}
 use Rattle.logical_decoder.proofs.Examples.{normalOf}
-use Rattle.moves.specs.Moves.{count, others, long, short, movWords, movSaid}
+use Rattle.moves.specs.Moves.{others, long, short, movWords, movSaid}
 use Rattle.displacements.specs.Answer.{placeSaid, dispSaid}
 
 -- what is asked beside what document 01 says

@@ -19,8 +19,10 @@ use Rattle.words.specs.Said.{Said, ok, no}
 use Rattle.writers.specs.Put.{allBytes, putBytesOf}
 use Rattle.words.proofs.Answers.{not-both}
 use Rattle.writers.proofs.Writes.{bytes-refused, bytes-written, bytes-others, bytes-done}
-use Rattle.moves.specs.Moves.{movSaid, patchSaid}
-use Rattle.moves.proofs.Lengths.{mov-by, patch-by, mov-some, patch64-length, patch32-length}
+use Rattle.moves.specs.Moves.{movSaid}
+use Rattle.moves.proofs.Lengths.{mov-by, mov-some}
+use Rattle.patchable_moves.specs.Patchable.{patchSaid}
+use Rattle.patchable_moves.proofs.Lengths.{patch-by, patch64-length, patch32-length}
 use Rattle.logical.specs.Answer.{Encoded}
 use Rattle.logical.specs.declared.LogicalImm.{LogicalImm}
 use Rattle.logical_words.specs.Word.{baseOf, filled, wordOf}

@@ -6,7 +6,8 @@ use lib.IntN.{ℤ}
 use Rattle.words.specs.Said.{Said}
 use Rattle.writers.specs.Put.{putBytesOf}
 use Rattle.words.proofs.Determined.{one-answer}
-use Rattle.moves.specs.Moves.{movSaid, patchSaid}
+use Rattle.moves.specs.Moves.{movSaid}
+use Rattle.patchable_moves.specs.Patchable.{patchSaid}
 use Rattle.logical.specs.declared.LogicalImm.{LogicalImm}
 use Rattle.logical.proofs.Laws.{encoded-one}
 use Rattle.logical.proofs.Model.{encodeOf}

@@ -17,7 +17,8 @@ ghost use Rattle.words.specs.Answer.{numberOf, said, made};
 ghost use Rattle.words.specs.Listed.{listed};
 ghost use Rattle.writers.specs.Put.{putBytesOf};
 ghost use Rattle.logical_words.specs.Word.{ForWord};
-ghost use Rattle.moves.specs.Moves.{movSaid, patchSaid};
+ghost use Rattle.moves.specs.Moves.{movSaid};
+ghost use Rattle.patchable_moves.specs.Patchable.{patchSaid};
 ghost use Rattle.displacements.specs.Answer.{dispSaid, targetSaid, readSaid};
 ghost use Rattle.host.specs.Number.{told, counted, hostOf, spelled, ForFields};
 ghost use Rattle.host.specs.Private.{Near};
@@ -74,7 +75,7 @@ pub extern "C" fn vaimalofo_patchable_move(
     put(
         bytes,
         position,
-        moves::patchable_mov_words(size, value, register),
+        patchable_moves::patchable_mov_words(size, value, register),
     )
 }
 

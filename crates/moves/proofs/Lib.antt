@@ -2,6 +2,7 @@
 pub mod Lists
 pub mod Run
 pub mod Lengths
+pub mod Calls
 pub mod Demands
 pub mod Determined
 pub mod Examples

@@ -11,16 +11,9 @@ use lib.ListN.{length, set, getD, replicate, length-append}
 use lib.Seq.{set-at, append-snoc}
 use Rattle.words.specs.Listed.{wordsOf}
 use Rattle.words.specs.declared.Words.{Words}
-use Rattle.moves.specs.Moves.{word, movz, movn, movk, half, unless, others, rest, byMovz, byMovn}
+use Rattle.halfwords.specs.Halfwords.{half}
+use Rattle.moves.specs.Moves.{word, movz, movn, movk, unless, others, rest, byMovz, byMovn}
 use Rattle.moves.specs.Steps.{firstBase, firstWord, lead}
-
--- ---- words of halfwords that were cut
-
-pub word-of : (base k rd : ℕ) {w h j : ℕ} → w ≡ word base k h rd → h ≡ j → w ≡ word base k j rd
-word-of base k rd e p = e ∙ ap (λ (x : ℕ). word base k x rd) p
-
-pub four-words : {a b c d w x y z : ℕ} → a ≡ w → b ≡ x → c ≡ y → d ≡ z → record { count = 4; a = a; b = b; c = c; d = d } ≡ wordsOf (w ∷ x ∷ y ∷ z ∷ [])
-four-words p q r s = rw (p, q, r, s)
 
 -- ---- the halfwords that are not f
 
@@ -85,7 +78,7 @@ more rd f k j ps {l} {n} {m} {w} {h} t s e p q = rw (rest-append rd ps (part f k
     go true = rw (add-zero, append-nil) (record { stale = w; end = t .end; is = stored })
     go false =
         let room : 4 - n ≡ suc (4 - (n + 1)) = omega arith in
-        let w-is = word-of movk k rd q p in
+        let w-is = q ∙ ap (λ (x : ℕ). word movk k x rd) p in
         record {
           stale = 0;
           end = length-append ws (word movk k j rd ∷ []) ∙ ap (λ (x : ℕ). x + 1) (t .end);

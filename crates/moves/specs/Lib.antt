@@ -1,3 +1,3 @@
--- The words of document 01's modules 5 and 6, and what the inner functions give.
+-- The words of document 01's module 5, and what the inner functions give.
 pub mod Moves
 pub mod Steps

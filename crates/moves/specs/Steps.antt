@@ -7,19 +7,8 @@ use lib.Bits.{bitXor}
 use lib.Dec.{eqb, leb}
 use Rattle.words.specs.Listed.{wordsOf}
 use Rattle.words.specs.declared.Words.{Words}
-use Rattle.moves.specs.Moves.{movz, movn, half, same, count}
-use Rattle.moves.specs.declared.Halves.{Halves}
-
--- each halfword as a u32
-pub record Halved (v : ℕ) (r : Halves) : Type 0 where
-  pub at-0 : r .0 ≡ half v 0
-  pub at-1 : r .1 ≡ half v 1
-  pub at-2 : r .2 ≡ half v 2
-  pub at-3 : r .3 ≡ half v 3
-
-pub record Tested (f h r : ℕ) : Type 0 where
-  pub is : r ≡ same f h
-  pub small : r ≤ 1
+use Rattle.halfwords.specs.Halfwords.{count}
+use Rattle.moves.specs.Moves.{movz, movn}
 
 pub record Passed (n f h r : ℕ) : Type 0 where
   pub is : r ≡ n + cond (eqb h f) 0 1

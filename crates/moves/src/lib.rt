@@ -1,5 +1,4 @@
-// Modules 5 and 6: move sequences and patchable moves. Arm's meaning of the words is in the crate arm, the words that are asked for in
-// specs/Moves.antt.
+// Module 5: move sequences. Arm's meaning of the words is in the crate arm, the words that are asked for in specs/Moves.antt.
 use words::Refusal;
 use words::WordPos;
 use words::Worded;
@@ -11,8 +10,8 @@ ghost use Prim.Native.Nat.{_/_, _%_, _^_, _<_};
 ghost use Rattle.words.specs.Answer.{said, made};
 ghost use Rattle.words.specs.Listed.{wordsOf, packed};
 ghost use Rattle.writers.specs.Put.{putOf};
-ghost use Rattle.moves.specs.Moves.{word, count, others, rest, long, short, movSaid, isSize, patchWords, patchSaid};
-ghost use Rattle.moves.specs.Steps.{Halved, Tested, Passed, Filled, Based, firstWord, lead};
+ghost use Rattle.moves.specs.Moves.{word, others, rest, long, short, movSaid};
+ghost use Rattle.moves.specs.Steps.{Passed, Filled, Based, firstWord, lead};
 
 const MOVZ: u32 = 0xD2800000;
 
@@ -22,26 +21,8 @@ const MOVK: u32 = 0xF2800000;
 
 const MOVN32: u32 = 0x12800000;
 
-const MOVZ32: u32 = 0x52800000;
-
-const MOVK32: u32 = 0x72800000;
-
 // 31 is the zero register.
 const LAST_REGISTER: u32 = 30;
-
-// The four halfwords of a value, lowest first.
-struct Halves(u32, u32, u32, u32);
-
-fn cut(imm: u64) -> Halves
-    ensures { λ r. ⌜ Halved imm r ⌝ }
-{
-    Halves(
-        (imm % 65536) as u32,
-        (imm / 65536 % 65536) as u32,
-        (imm / 4294967296 % 65536) as u32,
-        (imm / 281474976710656 % 65536) as u32,
-    )
-}
 
 // A base with halfword number, halfword and register.
 fn word(base: u32, k: u32, h: u32, rd: u32) -> u32
@@ -49,28 +30,6 @@ fn word(base: u32, k: u32, h: u32, rd: u32) -> u32
     ensures { λ r. ⌜ r ≡ word base k h rd ⌝ }
 {
     base + k * 2097152 + h * 32 + rd
-}
-
-// 1 for a halfword that is f.
-fn same(f: u32, h: u32) -> usize
-    ensures { λ r. ⌜ Tested f h r ⌝ }
-{
-    if h == f { 1 } else { 0 }
-}
-
-// How many halfwords are f.
-fn count(f: u32, imm: u64) -> usize
-    ensures { λ r. ⌜ r ≡ count f imm ⌝ }
-{
-    let h = cut(imm);
-    same(f, h.0) + same(f, h.1) + same(f, h.2) + same(f, h.3)
-}
-
-// How many halfwords are zero.
-pub fn count_zero_half_words_64(imm: u64) -> usize
-    ensures { λ r. ⌜ r ≡ count 0 imm ⌝ }
-{
-    count(0, imm)
 }
 
 // The place after a halfword: one further, unless the halfword is f.
@@ -87,7 +46,7 @@ fn rest(f: u32, imm: u64, rd: u32) -> Words
     requires { ⌜ rd < 31 ⌝ }
     ensures { λ r. ⌜ r ≡ wordsOf (rest rd (others f imm)) ⌝ }
 {
-    let h = cut(imm);
+    let h = halfwords::cut(imm);
     let mut w = [0u32; 5];
     w[0] = word(MOVK, 0, h.0, rd);
     let i = past(0, f, h.0);
@@ -151,7 +110,7 @@ fn lead(z: u32, w: u32, q: Words) -> Words
 fn filler(imm: u64) -> u32
     ensures { λ r. ⌜ Filled imm r ⌝ }
 {
-    if count(0xFFFF, imm) <= count(0, imm) {
+    if halfwords::count_half_words_64(0xFFFF, imm) <= halfwords::count_half_words_64(0, imm) {
         0
     } else {
         0xFFFF
@@ -223,54 +182,4 @@ pub fn encode_mov_sequence64(words: &mut [u32], at: WordPos, imm: u64, rd: u32) 
     ensures { λ r. ⌜ (said r, now (words .exit)) ≡ putOf (now (words .entry)) (at .0) (movSaid rd imm) ⌝ }
 {
     writers::put(words, at, mov_words(imm, rd))
-}
-
-fn is_size(size: u32) -> bool
-    ensures { λ r. ⌜ r ≡ isSize size ⌝ }
-{
-    size == 64 || size == 32
-}
-
-// Always four words at 64 and two at 32, so that another value can be put in their place.
-fn patchable(size: u32, value: u64, rd: u32) -> Words
-    requires { ⌜ rd < 31 ⌝ }
-    ensures { λ r. ⌜ r ≡ wordsOf (patchWords size value rd) ⌝ }
-{
-    let h = cut(value);
-    if size == 64 {
-        return Words {
-            count: 4,
-            a: word(MOVZ, 0, h.0, rd),
-            b: word(MOVK, 1, h.1, rd),
-            c: word(MOVK, 2, h.2, rd),
-            d: word(MOVK, 3, h.3, rd),
-        };
-    }
-    two(word(MOVZ32, 0, h.0, rd), word(MOVK32, 1, h.1, rd))
-}
-
-// The words of a patchable move at a register size of 64 or 32, or refusal 1 or 2.
-pub fn patchable_mov_words(size: u32, value: u64, rd: u32) -> Worded
-    ensures { λ r. ⌜ made r ≡ packed (patchSaid size value rd) ⌝ }
-{
-    if !is_size(size) {
-        return Worded::Not(Refusal::Width);
-    }
-    if rd > LAST_REGISTER {
-        return Worded::Not(Refusal::Register);
-    }
-    Worded::Made(patchable(size, value, rd))
-}
-
-// A patchable move, written: the words from the position on, or refusal 1, 2 or 8 with the run unchanged.
-pub fn encode_patchable_mov_imm(
-    words: &mut [u32],
-    at: WordPos,
-    size: u32,
-    value: u64,
-    rd: u32,
-) -> Written
-    ensures { λ r. ⌜ (said r, now (words .exit)) ≡ putOf (now (words .entry)) (at .0) (patchSaid size value rd) ⌝ }
-{
-    writers::put(words, at, patchable_mov_words(size, value, rd))
 }

@@ -4,8 +4,9 @@ use mathlib.Core.List.{List, [], _∷_, _++_}
 use Prim.Native.Nat.{ℕ, zero, suc, _/_, _%_}
 use Rattle.lines.specs.Item.{Item, words, numbers, no, badMark, cutAt}
 use Rattle.lines.specs.Text.{textsOf, decimal}
+use Rattle.halfwords.specs.Halfwords.{count}
 use Rattle.logical.proofs.Model.{encodeOf}
-use Rattle.moves.specs.Moves.{count, others, long, short, movWords, movSaid}
+use Rattle.moves.specs.Moves.{others, long, short, movWords, movSaid}
 use Rattle.records.specs.Records.{marked, valueOf, askedBy}
 use Rattle.records.specs.Inputs.{Prints}
 use Rattle.records.proofs.Model.{lineOf, linesOf, the-lines}

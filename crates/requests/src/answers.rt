@@ -101,7 +101,7 @@ fn values(r: Request) -> Answer {
         48 => fields(logical::encode_logical_imm(r.a, low(r.b))),
         64 => mask(logical_decoder::decode_logical_imm(low(r.a), low(r.b), low(r.c), low(r.d))),
         65 => fields(logical_decoder::normalise(low(r.a), low(r.b), low(r.c), low(r.d))),
-        82 => one(low(moves::count_zero_half_words_64(r.a) as u64)),
+        82 => one(low(halfwords::count_zero_half_words_64(r.a) as u64)),
         _ => Answer::No(Refusal::Unknown),
     }
 }

@@ -142,7 +142,7 @@ fn move_to(r: Request, run: &mut [u32]) -> Written {
 }
 
 fn patchable(r: Request, run: &mut [u32]) -> Written {
-    moves::encode_patchable_mov_imm(run, WordPos(r.e as usize), low(r.a), r.b, low(r.c))
+    patchable_moves::encode_patchable_mov_imm(run, WordPos(r.e as usize), low(r.a), r.b, low(r.c))
 }
 
 fn by_distance(r: Request, run: &mut [u32]) -> Written {

@@ -2,8 +2,8 @@
 use mathlib.Core.Path.{ap, _∙_}
 use Rattle.words.specs.Listed.{listed}
 use Rattle.words.proofs.Answers.{listed-packed}
-use Rattle.moves.specs.Moves.{patchSaid}
-use Rattle.moves.proofs.Lengths.{patch-short}
+use Rattle.patchable_moves.specs.Patchable.{patchSaid}
+use Rattle.patchable_moves.proofs.Lengths.{patch-short}
 use Rattle.host.proofs.Laws.{asked}
 use borrow.Author.Needs.{needs}
 use Rattle.host.proofs.vaimalofo_patchable_move.Statement.{statement}

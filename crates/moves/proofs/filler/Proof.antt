@@ -3,7 +3,7 @@ use mathlib.Core.Path.{sym}
 use Prim.Native.Nat.{_≤_, _<_}
 use native.Mathlib.Omega.{arith}
 use borrow.Author.Tests.{le-leb, lt-leb}
-use Rattle.moves.specs.Moves.{count}
+use Rattle.halfwords.specs.Halfwords.{count}
 use Rattle.moves.specs.Steps.{filler}
 use borrow.Author.Needs.{needs}
 use Rattle.moves.proofs.filler.Statement.{statement}

@@ -1,7 +1,8 @@
 -- `moves::long` meets its contract. Assumes nothing.
 use mathlib.Core.Path.{_∙_}
 use lib.Dec.{leb}
-use Rattle.moves.specs.Moves.{count, long}
+use Rattle.halfwords.specs.Halfwords.{count}
+use Rattle.moves.specs.Moves.{long}
 use Rattle.moves.specs.Steps.{filler}
 use Rattle.moves.proofs.Lists.{long-by}
 use borrow.Author.Needs.{needs}

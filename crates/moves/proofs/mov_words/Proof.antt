@@ -5,7 +5,8 @@ use native.Mathlib.Omega.{arith}
 use borrow.Author.Tests.{lt-ltb, le-ltb, le-leb, lt-leb}
 use Rattle.words.specs.Said.{ok}
 use Rattle.words.specs.Listed.{wordsOf}
-use Rattle.moves.specs.Moves.{half, short, movWords, movSaid}
+use Rattle.halfwords.specs.Halfwords.{half}
+use Rattle.moves.specs.Moves.{short, movWords, movSaid}
 use borrow.Author.Needs.{needs}
 use Rattle.moves.proofs.mov_words.Statement.{statement}
 use Rattle.moves.proofs.mov_words.Tie as tie

@@ -4,7 +4,8 @@ use mathlib.Core.List.{List, [], _++_}
 use Prim.Native.Nat.{ℕ}
 use native.Mathlib.Omega.{arith}
 use Rattle.words.specs.Listed.{wordsOf}
-use Rattle.moves.specs.Moves.{half, rest}
+use Rattle.halfwords.specs.Halfwords.{half}
+use Rattle.moves.specs.Moves.{rest}
 use Rattle.moves.proofs.Lists.{part, others-parts, nothing, more, held}
 use Rattle.moves.proofs.rest.Statement.{statement}
 use Rattle.moves.proofs.rest.Tie as tie

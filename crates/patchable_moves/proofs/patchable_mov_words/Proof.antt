@@ -1,12 +1,12 @@
--- `moves::patchable_mov_words` meets its contract. Assumes nothing.
+-- `patchable_moves::patchable_mov_words` meets its contract. Assumes nothing.
 use mathlib.Core.Path.{_≡_, sym, ap, _∙_}
 use mathlib.Core.Bool.{true, false}
 use borrow.Author.Tests.{lt-ltb, le-ltb, not-true, not-false}
 use Rattle.words.specs.Said.{ok}
-use Rattle.moves.specs.Moves.{isSize, patchSaid}
+use Rattle.patchable_moves.specs.Patchable.{isSize, patchSaid}
 use borrow.Author.Needs.{needs}
-use Rattle.moves.proofs.patchable_mov_words.Statement.{statement}
-use Rattle.moves.proofs.patchable_mov_words.Tie as tie
+use Rattle.patchable_moves.proofs.patchable_mov_words.Statement.{statement}
+use Rattle.patchable_moves.proofs.patchable_mov_words.Tie as tie
 
 returns : tie.Need-returns
 unfolding patchSaid

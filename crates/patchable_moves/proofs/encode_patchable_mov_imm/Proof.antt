@@ -1,13 +1,13 @@
--- `moves::encode_patchable_mov_imm` meets its contract. Assumes nothing.
+-- `patchable_moves::encode_patchable_mov_imm` meets its contract. Assumes nothing.
 use mathlib.Core.Path.{ap, _∙_}
 use Rattle.words.specs.Listed.{listed}
 use Rattle.writers.specs.Put.{putOf}
 use Rattle.words.proofs.Answers.{listed-packed}
-use Rattle.moves.specs.Moves.{patchSaid}
-use Rattle.moves.proofs.Lengths.{patch-short}
+use Rattle.patchable_moves.specs.Patchable.{patchSaid}
+use Rattle.patchable_moves.proofs.Lengths.{patch-short}
 use borrow.Author.Needs.{needs}
-use Rattle.moves.proofs.encode_patchable_mov_imm.Statement.{statement}
-use Rattle.moves.proofs.encode_patchable_mov_imm.Tie as tie
+use Rattle.patchable_moves.proofs.encode_patchable_mov_imm.Statement.{statement}
+use Rattle.patchable_moves.proofs.encode_patchable_mov_imm.Tie as tie
 
 returns : tie.Need-returns
 returns c =

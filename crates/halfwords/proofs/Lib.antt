@@ -1,0 +1,2 @@
+-- That each contract allows one answer.
+pub mod Determined

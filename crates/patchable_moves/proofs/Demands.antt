@@ -1,0 +1,60 @@
+-- What is asked of patchable moves: the words leave the asked value, which at 32 is the low 32 bits with the upper half clear, and nothing
+-- else changed, from any old content; and how many there are. Assumes nothing.
+use mathlib.Core.Path.{_≡_, _∙_}
+use mathlib.Core.List.{List}
+use mathlib.Core.Option.{some}
+use Prim.Native.Nat.{ℕ, _+_, _/_, _%_, _^_, _<_}
+use native.Mathlib.Nat.{mod-eq-of-lt}
+use native.Mathlib.Omega.{arith}
+use Rattle.arm.specs.MoveWide.{Regs, write, run}
+use Rattle.words.specs.Said.{ok}
+use Rattle.words.specs.Listed.{listOf, packed}
+use Rattle.words.specs.declared.Words.{Words}
+use Rattle.words.proofs.Answers.{not-both}
+use Rattle.writers.proofs.Writes.{put-done, written}
+use Rattle.moves.proofs.Calls.{Put, not-refused, Leaves, listed-as, counted}
+use Rattle.patchable_moves.specs.Patchable.{patch64, patch32, patchSaid}
+use Rattle.patchable_moves.proofs.Run.{patch64-run, patch32-run}
+use Rattle.patchable_moves.proofs.Lengths.{patch-by, patch64-length, patch32-length}
+
+-- ---- the asked value
+
+module _ (size v rd : ℕ) (v-is : v < 2 ^ 64) (R : Regs) where
+  -- in the run after a call that was not turned down
+  pub patched : (ws : List ℕ) (at p : ℕ) (ws′ : List ℕ) → Put ws at p ws′ (patchSaid size v rd) → Leaves at p ws′ R rd (v % 2 ^ size)
+  patched ws at p ws′ =
+      patch-by size v rd (λ x. Put ws at p ws′ x → Leaves at p ws′ R rd (v % 2 ^ size))
+      (λ e. absurd (not-refused ws at 1 p ws′ e))
+      (λ e. absurd (not-refused ws at 2 p ws′ e))
+      (λ s l e. rw (written ws at (patch64 v rd) p ws′ e, s, mod-eq-of-lt v-is) (patch64-run rd l v v-is R))
+      (λ s l e. rw (written ws at (patch32 v rd) p ws′ e, s) (patch32-run rd l v R))
+
+  -- by value
+  pub patch-made : (f : Words) → ok f ≡ packed (patchSaid size v rd) → run (listOf f) R ≡ some (write R rd (v % 2 ^ size))
+  patch-made f =
+      patch-by size v rd (λ x. ok f ≡ packed x → run (listOf f) R ≡ some (write R rd (v % 2 ^ size)))
+      (λ e. absurd (not-both e))
+      (λ e. absurd (not-both e))
+      (λ s l e. rw (listed-as f (patch64 v rd) (omega (arith, patch64-length v rd)) e, s, mod-eq-of-lt v-is) (patch64-run rd l v v-is R))
+      (λ s l e. rw (listed-as f (patch32 v rd) (omega (arith, patch32-length v rd)) e, s) (patch32-run rd l v R))
+
+-- ---- how many words: always four at 64 and two at 32
+
+module _ (size v rd : ℕ) where
+  -- by value
+  pub patch-count : (f : Words) → ok f ≡ packed (patchSaid size v rd) → f .count ≡ size / 16
+  patch-count f =
+      patch-by size v rd (λ x. ok f ≡ packed x → f .count ≡ size / 16)
+      (λ e. absurd (not-both e))
+      (λ e. absurd (not-both e))
+      (λ s l e. counted f (patch64 v rd) e ∙ omega (arith, patch64-length v rd))
+      (λ s l e. counted f (patch32 v rd) e ∙ omega (arith, patch32-length v rd))
+
+  -- through the writer: the position moves on by as many
+  pub patched-past : (ws : List ℕ) (at p : ℕ) (ws′ : List ℕ) → Put ws at p ws′ (patchSaid size v rd) → p ≡ at + size / 16
+  patched-past ws at p ws′ =
+      patch-by size v rd (λ x. Put ws at p ws′ x → p ≡ at + size / 16)
+      (λ e. absurd (not-refused ws at 1 p ws′ e))
+      (λ e. absurd (not-refused ws at 2 p ws′ e))
+      (λ s l e. omega (arith, put-done ws at ws′ (patch64 v rd) p e .past, patch64-length v rd))
+      (λ s l e. omega (arith, put-done ws at ws′ (patch32 v rd) p e .past, patch32-length v rd))

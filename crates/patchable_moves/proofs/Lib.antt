@@ -1,0 +1,6 @@
+-- The theorems about patchable moves (Demands), that each contract allows one answer (Determined), worked examples, and the laws below them.
+pub mod Run
+pub mod Lengths
+pub mod Demands
+pub mod Determined
+pub mod Examples

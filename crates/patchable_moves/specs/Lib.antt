@@ -1,0 +1,2 @@
+-- The words of document 01's module 6.
+pub mod Patchable
