@@ -3,6 +3,7 @@
 
 use std::fs;
 use std::hint::black_box;
+use std::thread;
 use std::time::Instant;
 
 use compare::{plain, values};
@@ -25,8 +26,10 @@ fn value_list() -> Vec<u64> {
         .collect()
 }
 
-/// Nanoseconds that this thread has run on a processor; where the system does not say, nanoseconds that have passed.
+/// Nanoseconds that this thread has run on a processor; where the system does not say, nanoseconds that have passed. The system counts a
+/// thread's time when it gives way, and else by ticks of some milliseconds.
 fn now(began: Instant) -> u64 {
+    thread::yield_now();
     let text = fs::read_to_string("/proc/thread-self/schedstat").unwrap_or_default();
     let first = text.split(' ').next().and_then(|number| number.parse().ok());
     first.unwrap_or(began.elapsed().as_nanos() as u64)
