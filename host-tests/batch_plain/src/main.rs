@@ -2,6 +2,8 @@
 //! compared with, and a second reader of its input.
 use std::io::{self, BufReader, BufWriter, Read, Write};
 
+use batch_plain::{logical_fields, move_words};
+
 /// What a record's line says.
 enum Line {
     Words([u32; 4], usize),
@@ -10,70 +12,19 @@ enum Line {
     No(u8),
 }
 
-fn word(base: u32, k: usize, half: u16, rd: u32) -> u32 {
-    base | (k as u32) << 21 | (half as u32) << 5 | rd
-}
-
 fn mov(value: u64, register: u8) -> Line {
     if register > 30 {
         return Line::No(2);
     }
-    let rd = register as u32;
-    let half = |k: usize| (value >> (16 * k)) as u16;
-    let one = |w: u32| Line::Words([w, 0, 0, 0], 1);
-    if value <= 0xFFFF_FFFF {
-        let (lo, hi) = (half(0), half(1));
-        return match (hi, lo) {
-            (0, _) => one(word(0xD280_0000, 0, lo, rd)),
-            (0xFFFF, _) => one(word(0x1280_0000, 0, !lo, rd)),
-            (_, 0) => one(word(0xD280_0000, 1, hi, rd)),
-            (_, 0xFFFF) => one(word(0x1280_0000, 1, !hi, rd)),
-            _ => Line::Words([word(0xD280_0000, 0, lo, rd), word(0xF280_0000, 1, hi, rd), 0, 0], 2),
-        };
-    }
-    let count = |h: u16| (0..4).filter(|&k| half(k) == h).count();
-    let (first, fill) = if count(0) >= count(0xFFFF) { (0xD280_0000, 0) } else { (0x9280_0000, 0xFFFF) };
-    let (mut words, mut n) = ([0; 4], 0);
-    for k in 0..4 {
-        if half(k) != fill {
-            words[n] = if n == 0 { word(first, k, half(k) ^ fill, rd) } else { word(0xF280_0000, k, half(k), rd) };
-            n += 1;
-        }
-    }
-    if n == 0 {
-        return one(word(first, 0, 0, rd));
-    }
-    Line::Words(words, n)
+    let (words, count) = move_words(value, register.into());
+    Line::Words(words, count)
 }
 
-/// The search over element lengths that A64 encoders use.
 fn fields(value: u64, width: u32) -> Line {
-    let all = u64::MAX >> (64 - width);
-    let value = value & all;
-    if value == 0 || value == all {
-        return Line::No(3);
+    match logical_fields(value, width) {
+        Some([n, s, r]) => Line::Fields(n, s, r),
+        None => Line::No(3),
     }
-    let mut size = width;
-    while size > 2 {
-        let half = size / 2;
-        let mask = (1 << half) - 1;
-        if value & mask != value >> half & mask {
-            break;
-        }
-        size = half;
-    }
-    let mask = u64::MAX >> (64 - size);
-    let element = value & mask;
-    let ones = element.count_ones();
-    for r in 0..size {
-        let turned = (element << r | element >> ((size - r) % size)) & mask;
-        if turned == (1 << ones) - 1 {
-            let n = (size == 64) as u32;
-            let s = (!(2 * size - 1) & 63) | (ones - 1);
-            return Line::Fields(n, s, r);
-        }
-    }
-    Line::No(3)
 }
 
 fn float(value: u64) -> Line {

@@ -10,7 +10,7 @@ use oracle::document::logical::masks;
 use oracle::lists::random::Random;
 use vaimalofo::{ByteDistance, Logical, WordPos};
 
-use crate::parts::BASES;
+use crate::parts::own_base;
 use crate::values;
 
 /// Lines that a script is given at a time.
@@ -132,12 +132,7 @@ fn displacements(samples: usize) -> Vec<String> {
 }
 
 fn displaced(random: &mut Random, format: usize, distance: i64) -> String {
-    let low = match format {
-        0 => 0,
-        1 => random.below(16) as u32,
-        _ => random.below(32) as u32,
-    };
-    let base = random.one_of(BASES[format]) + low;
+    let base = own_base(format, random);
     let mut run = [0; 4];
     let at = ByteDistance(distance);
     vaimalofo::displacement(&mut run, WordPos(0), format as u32, base, at)

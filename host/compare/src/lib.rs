@@ -3,7 +3,14 @@
 pub mod calls;
 pub mod judges;
 pub mod parts;
-pub mod plain;
 pub mod tally;
 pub mod values;
 pub mod work;
+
+/// Words into a run of bytes at a word position, low byte first.
+#[inline]
+pub fn put(run: &mut [u8], at: usize, words: &[u32]) {
+    for (bytes, word) in run[4 * at..].chunks_exact_mut(4).zip(words) {
+        bytes.copy_from_slice(&word.to_le_bytes());
+    }
+}

@@ -9,6 +9,7 @@ use oracle::rust;
 use vaimalofo::{Fields, WordPos};
 
 use crate::calls::compare;
+use crate::put;
 use crate::tally::Tally;
 use crate::values;
 use crate::work::Part;
@@ -88,9 +89,7 @@ fn move_of(value: u64, tally: &mut Tally) {
     let (rd, position) = ((mixed >> 8) % 31, (mixed >> 28) as usize % 4);
     let document = moves::move_words(value, rd).expect("the register is below 31");
     let mut expected = RUN;
-    for (word, bytes) in document.iter().zip(expected[4 * position..].chunks_exact_mut(4)) {
-        bytes.copy_from_slice(&word.to_le_bytes());
-    }
+    put(&mut expected, position, &document);
     let mut run = RUN;
     let answer = vaimalofo::mov(&mut run, WordPos(position), rd, value);
     if answer != Ok(WordPos(position + document.len())) || run != expected {
@@ -119,7 +118,7 @@ const BEYOND: i64 = 16;
 const STRIDES: [i64; 6] = [29, 1, 1, 1, 1024, 1];
 
 /// Base words of each format, registers and conditions left 0.
-pub const BASES: [&[u32]; 6] = [
+const BASES: [&[u32]; 6] = [
     &[0x1400_0000, 0x9400_0000],
     &[0x5400_0000, 0x3400_0000, 0xB500_0000],
     &[0x3600_0000, 0xB700_0000],
@@ -179,15 +178,21 @@ fn distance_of(mut item: u64) -> (usize, i64) {
     unreachable!("there are no more items than distances")
 }
 
-/// A base word: one of the format's, with any register or condition; now and then any word.
+/// One of a format's base words, with any register or condition.
+pub fn own_base(format: usize, random: &mut Random) -> u32 {
+    let base = random.one_of(BASES[format]);
+    match format {
+        0 => base,
+        1 => base + random.below(16) as u32,
+        _ => base + random.below(32) as u32,
+    }
+}
+
+/// A base word of the format; now and then any word.
 fn base(format: usize, random: &mut Random) -> u64 {
     match random.below(16) {
         0 => random.value() as u32 as u64,
-        _ if format == 0 => random.one_of(BASES[0]).into(),
-        _ => {
-            u64::from(random.one_of(BASES[format]))
-                + random.below(if format == 1 { 16 } else { 32 })
-        }
+        _ => own_base(format, random).into(),
     }
 }
 

@@ -6,7 +6,7 @@ use std::hint::black_box;
 use std::thread;
 use std::time::Instant;
 
-use compare::{plain, values};
+use compare::{put, values};
 use oracle::direct;
 use oracle::lists::random::Random;
 use vaimalofo::WordPos;
@@ -57,62 +57,51 @@ fn entry_moves(values: &[u64], run: &mut [u8]) -> usize {
     at.0
 }
 
-fn entry_fields(values: &[u64]) -> u64 {
-    let mut sum = 0;
-    for value in values {
-        if let Ok(f) = vaimalofo::logical_fields(64, *value) {
-            sum += u64::from(f.n << 12 | f.s << 6 | f.r);
-        }
+/// The words of each value put one behind the other, low byte first.
+#[inline]
+fn put_all(
+    values: &[u64],
+    run: &mut [u8],
+    words_of: impl Fn(u64, u32) -> ([u32; 4], usize),
+) -> usize {
+    let mut at = 0;
+    for (i, value) in values.iter().enumerate() {
+        let (words, count) = words_of(*value, register(i));
+        put(run, at, &words[..count]);
+        at += count;
     }
-    sum
-}
-
-/// Words into a run of bytes at a word position, low byte first.
-fn put(run: &mut [u8], at: usize, words: &[u32]) {
-    for (bytes, word) in run[4 * at..].chunks_exact_mut(4).zip(words) {
-        bytes.copy_from_slice(&word.to_le_bytes());
-    }
+    at
 }
 
 fn original_moves(values: &[u64], run: &mut [u8]) -> usize {
-    let mut at = 0;
-    for (i, value) in values.iter().enumerate() {
+    put_all(values, run, |value, rd| {
         let mut words = [0; 4];
-        let count = direct::encode_mov_sequence64(&mut words, *value, register(i), 1);
-        put(run, at, &words[..count]);
-        at += count;
-    }
-    at
-}
-
-fn original_fields(values: &[u64]) -> u64 {
-    let mut sum = 0;
-    for value in values {
-        if let Some([n, s, r]) = direct::encode_logical_imm(*value, 64) {
-            sum += u64::from(n << 12 | s << 6 | r);
-        }
-    }
-    sum
+        let count = direct::encode_mov_sequence64(&mut words, value, rd, 1);
+        (words, count)
+    })
 }
 
 fn plain_moves(values: &[u64], run: &mut [u8]) -> usize {
-    let mut at = 0;
-    for (i, value) in values.iter().enumerate() {
-        let (words, count) = plain::move_words(*value, register(i));
-        put(run, at, &words[..count]);
-        at += count;
-    }
-    at
+    put_all(values, run, batch_plain::move_words)
+}
+
+/// The fields of all values that have some, in one number each, summed up.
+#[inline]
+fn sum_fields(values: &[u64], fields_of: impl Fn(u64) -> Option<[u32; 3]>) -> u64 {
+    let fields = values.iter().filter_map(|value| fields_of(*value));
+    fields.map(|[n, s, r]| u64::from(n << 12 | s << 6 | r)).sum()
+}
+
+fn entry_fields(values: &[u64]) -> u64 {
+    sum_fields(values, |value| vaimalofo::logical_fields(64, value).ok().map(|f| [f.n, f.s, f.r]))
+}
+
+fn original_fields(values: &[u64]) -> u64 {
+    sum_fields(values, |value| direct::encode_logical_imm(value, 64))
 }
 
 fn plain_fields(values: &[u64]) -> u64 {
-    let mut sum = 0;
-    for value in values {
-        if let Some([n, s, r]) = plain::logical_fields(*value) {
-            sum += u64::from(n << 12 | s << 6 | r);
-        }
-    }
-    sum
+    sum_fields(values, |value| batch_plain::logical_fields(value, 64))
 }
 
 /// Seconds of a call.

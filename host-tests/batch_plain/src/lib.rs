@@ -1,6 +1,8 @@
-//! Document 01's moves and logical immediates as one would write them in plain Rust, for timing.
+//! Document 01's moves and logical immediates as one would write them in plain Rust, for timing: by the batch program of this package, and by
+//! `host/compare`, which also holds them to the model of document 01.
 
-/// The words of a move, and how many they are.
+/// The words of a move to a register below 31, and how many they are.
+#[inline]
 pub fn move_words(value: u64, rd: u32) -> ([u32; 4], usize) {
     let wide =
         |base: u32, place: usize, half: u64| base | (place as u32) << 21 | (half as u32) << 5 | rd;
@@ -36,9 +38,11 @@ pub fn move_words(value: u64, rd: u32) -> ([u32; 4], usize) {
     (words, count)
 }
 
-/// N, S and R at width 64: the shortest element that repeats, then the run in it.
-pub fn logical_fields(value: u64) -> Option<[u32; 3]> {
-    let mut size = 64;
+/// N, S and R at width 32 or 64: the shortest element that repeats, then the run in it.
+#[inline]
+pub fn logical_fields(value: u64, width: u32) -> Option<[u32; 3]> {
+    let value = value & (u64::MAX >> (64 - width));
+    let mut size = width;
     while size > 2 {
         let half = size / 2;
         let mask = (1u64 << half) - 1;
@@ -70,28 +74,5 @@ fn turn(element: u64, by: u32, size: u32) -> u64 {
     match by % size {
         0 => element,
         by => (element >> by | element << (size - by)) & (u64::MAX >> (64 - size)),
-    }
-}
-
-#[cfg(test)]
-mod tests {
-    use super::*;
-    use crate::values;
-    use oracle::document::{logical, moves};
-    use oracle::lists::random::Random;
-
-    #[test]
-    fn as_document_01() {
-        let mut random = Random::new(8 << 48);
-        for i in 0..400_000 {
-            let value = values::mixed(&mut random, i);
-            let (words, count) = move_words(value, 7);
-            assert_eq!(words[..count], moves::move_words(value, 7).unwrap());
-            assert_eq!(
-                logical_fields(value),
-                logical::encode_logical_imm(value, 64).ok(),
-                "{value:x}"
-            );
-        }
     }
 }
