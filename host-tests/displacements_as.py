@@ -3,7 +3,8 @@
 
 Reads lines `FORMAT BASE_HEX DISTANCE_DECIMAL WORD_HEX` from standard input and compares each word with what GNU as (and, for the page of an
 ADRP, GNU ld) gives for the instruction of that base at that distance. All lines go through one run of the assembler. The last line is
-`N passed, M failed`; the exit status is 1 if a line failed. Where the tools are missing it says `skipped: ..` and exits 0.
+`N passed, M failed`; the exit status is 1 if a line failed. Where the tools are missing it says `skipped: ..` and exits 0, after it has
+read all lines: who writes them must not meet a closed pipe.
 """
 import sys
 import tempfile
@@ -80,9 +81,9 @@ def parse(line):
 
 
 def main():
+    lines = [l.strip() for l in sys.stdin if l.strip()]
     if lacks("as", "ld", "objcopy"):
         return 0
-    lines = [l.strip() for l in sys.stdin if l.strip()]
     asked = [parse(l) for l in lines]
     failures = {i: why for i, (text, why) in enumerate(asked) if text is None}
     known = [i for i in range(len(lines)) if i not in failures]

@@ -4,7 +4,7 @@
 Reads lines `OPERATION WIDTH RN RD VALUE_HEX WORD_HEX` from standard input, with `no` for the word where the value has none. GNU as must give
 the same word for the instruction, or refuse its immediate; and objdump must read the operation, the registers and the value from the word. All
 lines go through one run of each. The last line is `N passed, M failed`; the exit status is 1 if a line failed. Where the tools are
-missing it says `skipped: ..` and exits 0.
+missing it says `skipped: ..` and exits 0, after it has read all lines: who writes them must not meet a closed pipe.
 """
 import os
 import re
@@ -50,9 +50,9 @@ def disassemble(words, folder):
 
 
 def main():
+    lines = [l.strip() for l in sys.stdin if l.strip()]
     if lacks("as", "ld", "objcopy", "objdump"):
         return 0
-    lines = [l.strip() for l in sys.stdin if l.strip()]
     asked = [parse(l) for l in lines]
     failures = {i: why for i, (text, why) in enumerate(asked) if text is None}
     known = [i for i in range(len(lines)) if i not in failures]

@@ -4,7 +4,7 @@
 Standard input has one sequence a line: VALUE RD WORD.., the value and the words in hex, the register in decimal. All of them go into one
 program, which runs each sequence from two opposite contents of registers 0 to 30. Afterwards register RD must hold VALUE and every other
 register what it held before. The last line is `N passed, M failed`; the exit status is 1 where something failed. Where a tool is
-missing it says so, ends in a line `skipped: ..` and exits with 0.
+missing it says so in a line `skipped: ..` and exits with 0, after it has read its input: who writes it must not meet a closed pipe.
 """
 import os
 import shutil
@@ -98,11 +98,12 @@ def differences(sequence, memory):
 
 
 def main():
+    text = sys.stdin.read()
     missing = [tool for tool in (ASSEMBLER, LINKER, EMULATOR) if shutil.which(tool) is None]
     if missing:
         print('skipped: ' + ', '.join(f'{tool} is missing (Debian package {PACKAGES[tool]})' for tool in missing))
         return 0
-    sequences, wrong = read(sys.stdin.read())
+    sequences, wrong = read(text)
     output, status = run(sequences)
     complete = len(output) // (2 * HALF)
     failures = list(wrong)

@@ -1,8 +1,8 @@
 //! Proves and builds the crate `host` of the repository that this package stands in, and links it.
 
-use std::io::ErrorKind;
+use std::io::{BufRead, BufReader};
 use std::path::{Path, PathBuf};
-use std::process::Command;
+use std::process::{Command, Stdio};
 use std::{env, fs};
 
 fn main() {
@@ -17,7 +17,7 @@ fn build() -> Result<(), String> {
         return Err(format!("the entries are compiled for x86-64 Linux, not for {arch} {os}"));
     }
     let top = Path::new(&variable("CARGO_MANIFEST_DIR")?).join("..");
-    for watched in ["crates.txt", "crates"] {
+    for watched in ["KIT", "crates.txt", "crates", "gate/kit", "gate/prove"] {
         println!("cargo::rerun-if-changed={}", top.join(watched).display());
     }
     prove(&top)?;
@@ -33,21 +33,30 @@ fn variable(name: &str) -> Result<String, String> {
     env::var(name).map_err(|why| format!("{name}: {why}"))
 }
 
-/// `rt staticlib host`: what has not changed since it was last proved is not proved again.
+/// `rt staticlib host` by the project's own command, which compares the kit with the file KIT and says crate by crate what it proves: `cargo build -vv`
+/// shows that as it comes. All else that it says is a warning, or an error where it fails.
 fn prove(top: &Path) -> Result<(), String> {
-    let run = Command::new("rt").args(["staticlib", "host"]).current_dir(top).output();
-    let output = run.map_err(|why| match why.kind() {
-        ErrorKind::NotFound => "`rt` is not on the PATH: it is the command of the Rattle kit, which proves and compiles the entries".to_string(),
-        _ => format!("cannot run `rt`: {why}"),
-    })?;
-    if output.status.success() {
-        return Ok(());
+    let command = top.join("gate/prove");
+    let run = Command::new(&command).args(["staticlib", "host"]).stderr(Stdio::piped()).spawn();
+    let mut child = run.map_err(|why| format!("cannot run {}: {why}", command.display()))?;
+    let said = child.stderr.take().ok_or("gate/prove has no standard error")?;
+    let mut rest = Vec::new();
+    for line in BufReader::new(said).lines() {
+        let line = line.map_err(|why| format!("cannot read what gate/prove says: {why}"))?;
+        if line.starts_with("proving ") {
+            eprintln!("{line}");
+        } else {
+            rest.push(line);
+        }
     }
-    let said = [output.stdout, output.stderr].concat();
-    let said = String::from_utf8_lossy(&said);
-    let last: Vec<&str> = said.lines().rev().take(20).collect();
-    for line in last.iter().rev() {
-        println!("cargo::warning={line}");
+    let status = child.wait().map_err(|why| format!("gate/prove: {why}"))?;
+    let kind = if status.success() { "warning" } else { "error" };
+    for line in rest {
+        println!("cargo::{kind}={line}");
     }
-    Err("`rt staticlib host` failed: its last lines are above".to_string())
+    if status.success() {
+        Ok(())
+    } else {
+        Err("the entries are not proved, or could not be built".to_string())
+    }
 }

@@ -1,5 +1,5 @@
 // The batch program: records from standard input, and a line for each on standard output. Input comes in blocks of whole records through a
-// fixed buffer, and lines go out through another.
+// fixed buffer, and lines go out through another. What ends it but the end of the input is told on standard error.
 use lines::Answer;
 ghost use mathlib.Core.Path.{_≡_};
 ghost use mathlib.Core.Bool.{false};
@@ -21,6 +21,85 @@ struct Printed {
 struct Next {
     offset: u64,
     over: bool,
+}
+
+// How many bytes were read, and whether a read failed behind them.
+struct Filled {
+    count: usize,
+    failed: bool,
+}
+
+// Tells on standard error that a line was the end, and why.
+fn tell(line: &[u8], offset: u64, why: &[u8]) {
+    io::write_all(2, line);
+    io::print_decimal(2, offset);
+    io::write_all(2, why);
+}
+
+// A bad mark at a record whose end stands at an offset.
+fn tell_bad_mark(behind: u64) {
+    tell(
+        b"bad mark at ",
+        std::num::wrapping_sub_u64(behind, 12),
+        b": a record opens with the bytes 46 53 (hex)\n",
+    );
+}
+
+// A tail that stands at an offset.
+fn tell_cut(offset: u64) {
+    tell(
+        b"cut at ",
+        offset,
+        b": the last record has fewer than 12 bytes\n",
+    );
+}
+
+// Writes lines, and tells where that fails.
+fn written(text: &[u8]) -> bool {
+    if io::write_all(1, text) {
+        return true;
+    }
+    os::fail(b"standard output");
+    false
+}
+
+// One read, which may end the input (no bytes) or fail, which is told.
+fn read_some(part: &mut [u8]) -> Filled
+    ensures { λ r. ⌜ r .count ≤ length (now (part .exit)) ⌝ }
+{
+    let got = libc::read(0, part);
+    if got < 0 {
+        os::fail(b"standard input");
+        return Filled {
+            count: 0,
+            failed: true,
+        };
+    }
+    Filled {
+        count: io::count(got, part),
+        failed: false,
+    }
+}
+
+// Reads until the buffer is full, the input ends or a read fails.
+fn fill(buf: &mut [u8]) -> Filled
+    ensures { λ r. ⌜ r .count ≤ length (now (buf .exit)) ⌝ }
+{
+    let mut done = 0;
+    while done < buf.len() {
+        let f = read_some(&mut buf[done..]);
+        if f.count == 0 {
+            return Filled {
+                count: done,
+                failed: f.failed,
+            };
+        }
+        done += f.count;
+    }
+    Filled {
+        count: done,
+        failed: false,
+    }
 }
 
 // Twelve bytes by value.
@@ -107,13 +186,14 @@ fn pass(bytes: &[u8], offset: u64, out: &mut [u8]) -> Next
         let n = p.written;
         i += p.taken;
         next = p.next;
-        if !io::write_all(1, &out[..n]) {
+        if !written(&out[..n]) {
             return Next {
                 offset: next,
                 over: true,
             };
         }
         if p.ended {
+            tell_bad_mark(next);
             return Next {
                 offset: next,
                 over: true,
@@ -130,22 +210,28 @@ fn pass(bytes: &[u8], offset: u64, out: &mut [u8]) -> Next
 fn last(count: usize, offset: u64, out: &mut [u8]) {
     let n = lines::line(records::tail(count, offset), out, 0);
     if n <= out.len() {
-        io::write_all(1, &out[..n]);
+        written(&out[..n]);
+    }
+    if 0 < n {
+        tell_cut(offset);
     }
 }
 
-// A block of the input. Only the last one is not full, and only that one has a tail.
+// A block of the input. Only the last one is not full, and only that one has a tail, which is cut where the input ended.
 fn block(buf: &mut [u8], offset: u64, out: &mut [u8]) -> Next
     requires { ⌜ 96 ≤ length (now out) ⌝ }
     ensures { λ r. ⌜ (r .over ≡ false → r .offset ≡ offsetAt offset (length (now (buf .exit)) / 12)) ⌝ }
 {
-    let n = io::read_full(0, buf);
+    let f = fill(buf);
+    let n = f.count;
     let next = pass(&buf[..n], offset, out);
     if next.over {
         return next;
     }
     if n < buf.len() {
-        last(n % 12, next.offset, out);
+        if !f.failed {
+            last(n % 12, next.offset, out);
+        }
         return Next {
             offset: next.offset,
             over: true,

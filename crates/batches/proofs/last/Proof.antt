@@ -5,8 +5,20 @@ use borrow.Author.Needs.{needs}
 use Rattle.batches.proofs.last.Statement.{statement}
 use Rattle.batches.proofs.last.Tie as tie
 
-slice-aggregate-write-all : tie.Need-slice-aggregate-write-all
-slice-aggregate-write-all c = simp length-take (omega arith)
+slice-aggregate-written : tie.Need-slice-aggregate-written
+slice-aggregate-written c = simp length-take (omega arith)
 
 pub last-spec : {M : Type 1} → statement M
-last-spec = tie.close (tie.spec (search needs) (search needs) (search needs) slice-aggregate-write-all (search needs) (search needs) (search needs) (search needs) (search needs))
+last-spec =
+    tie.close
+    (tie.spec
+    (search needs)
+    (search needs)
+    (search needs)
+    slice-aggregate-written
+    (search needs)
+    (search needs)
+    (search needs)
+    (search needs)
+    (search needs)
+    (search needs))

@@ -37,18 +37,18 @@ add-i c =
     let r = reached (p .before .before .before .before .loop .inv .2) (p .print .ensures .0) in
     omega (arith, r .within)
 
-slice-reshare-prefix-write-all : tie.Need-slice-reshare-prefix-write-all Inv-loop μ-loop
-slice-reshare-prefix-write-all c =
+slice-reshare-prefix-written : tie.Need-slice-reshare-prefix-written Inv-loop μ-loop
+slice-reshare-prefix-written c =
     let u = c .before .before .before .print .ensures .0 in
     omega (arith, u .room, u .same)
 
-slice-aggregate-write-all : tie.Need-slice-aggregate-write-all Inv-loop μ-loop
-slice-aggregate-write-all c =
+slice-aggregate-written : tie.Need-slice-aggregate-written Inv-loop μ-loop
+slice-aggregate-written c =
     let u = c .before .before .before .before .print .ensures .0 in
     simp length-take (omega (arith, u .room, u .same))
 
-write-all-requires : tie.Need-write-all-requires Inv-loop μ-loop
-write-all-requires c κs = tt
+written-requires : tie.Need-written-requires Inv-loop μ-loop
+written-requires c κs = tt
 
 same-length : tie.Need-same-length Inv-loop μ-loop
 same-length c =
@@ -58,9 +58,12 @@ same-length c =
 returns : tie.Need-returns Inv-loop μ-loop
 returns c = λ e. never e
 
+tell-bad-mark-requires : tie.Need-tell-bad-mark-requires Inv-loop μ-loop
+tell-bad-mark-requires c κs = tt
+
 same-length-2 : tie.Need-same-length-2 Inv-loop μ-loop
 same-length-2 c =
-    let p = c .before .before .before .before .before .before .before in
+    let p = c .before .before .before .before .before .before .before .before in
     p .print .ensures .0 .same ∙ p .before .before .before .before .loop .inv .1
 
 returns-2 : tie.Need-returns-2 Inv-loop μ-loop
@@ -99,11 +102,12 @@ pass-spec =
     part-print-end
     print-requires
     add-i
-    slice-reshare-prefix-write-all
-    slice-aggregate-write-all
-    write-all-requires
+    slice-reshare-prefix-written
+    slice-aggregate-written
+    written-requires
     same-length
     returns
+    tell-bad-mark-requires
     same-length-2
     returns-2
     loop-less
