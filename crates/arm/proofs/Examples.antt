@@ -1,27 +1,21 @@
 -- Worked values of Arm's definitions, each table one computed test: words that GNU as gave for the instruction beside them, and document 01's
 -- examples. Assumes nothing.
 use mathlib.Core.Path.{refl}
-use mathlib.Core.Bool.{Bool, true, _&&_}
 use mathlib.Core.List.{List, [], _∷_}
 use mathlib.Core.Option.{Option, none, some}
 use Prim.Native.Nat.{ℕ, _+_, _-_, _^_}
 use native.Mathlib.Omega.{arith}
-use lib.Dec.{T, eqb}
 use Rattle.arm.specs.Bits.{Replicate}
 use Rattle.arm.specs.BitMasks.{highestSetBit, len, esize, Legal, wmask}
 use Rattle.arm.specs.MoveWide.{decode, Regs, exec, run}
 use Rattle.arm.specs.Displacements.{B, Bcond, TBZ, ADR, ADRP, LDR}
 use Rattle.arm.specs.Immediates.{VFPExpandImm, byteMasks, ByteMask}
-
--- each left side is its right side
-abbrev pub allEqual : List (ℕ × ℕ) → Bool
-allEqual [] = true
-allEqual ((a, b) ∷ ps) = eqb a b && allEqual ps
+use Rattle.arm.proofs.Worked.{Worked}
 
 -- ---- DecodeBitMasks: the immediates of AND
 
 pub masks :
-    T (allEqual
+    Worked
     ((wmask 64 1 7 0, 0xFF)
     ∷ (wmask 64 0 60 0, 0x5555555555555555)
     ∷ (wmask 64 0 60 1, 0xAAAAAAAAAAAAAAAA)
@@ -37,9 +31,9 @@ pub masks :
     ∷ (wmask 32 0 1 1, 0x80000001)
     ∷ (wmask 32 0 30 0, 0x7FFFFFFF)
     ∷ (wmask 32 0 23 12, 0xFFF00FFF)
-    ∷ []))
+    ∷ [])
 unfolding wmask esize len highestSetBit Replicate
-masks = tt
+masks = refl
 
 -- what Arm leaves undefined: no length; S all ones, at the longest and the shortest element; N = 1 at width 32
 module _ (w r : ℕ) where
@@ -72,7 +66,7 @@ abbrev after : List ℕ → ℕ → ℕ
 after ws k = content (run ws old) k
 
 pub moves :
-    T (allEqual
+    Worked
     ((after (0x92800003 ∷ []) 3, 0xFFFFFFFFFFFFFFFF)  -- movn x3, #0
     ∷ (after (0x92800003 ∷ []) 4, 0x1111222233334448)
     ∷ (after (0xD28ACF00 ∷ 0xF2A24680 ∷ []) 0, 0x12345678)  -- movz x0, #0x5678; movk x0, #0x1234, lsl #16
@@ -88,14 +82,14 @@ pub moves :
     ∷ (after (0xD503201F ∷ []) 0, 2 ^ 64)  -- nop is no wide move
     ∷ (after (0x52C00000 ∷ []) 0, 2 ^ 64)  -- hw = 2 at 32 bits
     ∷ (after (0xB2800000 ∷ []) 0, 2 ^ 64)  -- opc = 01
-    ∷ []))
+    ∷ [])
 unfolding run decode exec
-moves = tt
+moves = refl
 
 -- ---- displacements
 
 pub displacements :
-    T (allEqual
+    Worked
     ((B 0x17FFFFFF, 2 ^ 64 - 4)  -- b .-4
     ∷ (B 0x15FFFFFF, 134217724)  -- b .+134217724
     ∷ (B 0x16000000, 2 ^ 64 - 134217728)  -- b .-134217728
@@ -112,13 +106,13 @@ pub displacements :
     ∷ (ADRP 0x90800000, 2 ^ 64 - 4294967296)  -- the least page
     ∷ (LDR 0x58000040, 8)  -- ldr x0, .+8
     ∷ (LDR 0x18800005, 2 ^ 64 - 1048576)  -- ldr w5, .-1048576
-    ∷ []))
-displacements = tt
+    ∷ [])
+displacements = refl
 
 -- ---- VFPExpandImm: the immediates of FMOV
 
 pub floats :
-    T (allEqual
+    Worked
     ((VFPExpandImm 16 112, 0x3C00)  -- 1.0
     ∷ (VFPExpandImm 16 191, 0xCFC0)  -- -31.0
     ∷ (VFPExpandImm 16 64, 0x3000)  -- 0.125
@@ -131,14 +125,14 @@ pub floats :
     ∷ (VFPExpandImm 64 64, 0x3FC0000000000000)  -- 0.125
     ∷ (VFPExpandImm 64 12, 0x400C000000000000)  -- 3.5
     ∷ (VFPExpandImm 64 128, 0xC000000000000000)  -- -2.0
-    ∷ []))
+    ∷ [])
 unfolding VFPExpandImm Replicate
-floats = tt
+floats = refl
 
 -- ---- the byte mask of AdvSIMDExpandImm: the immediates of MOVI at 64 bits
 
 pub bytes :
-    T (allEqual
+    Worked
     ((ByteMask 0, 0)
     ∷ (ByteMask 129, 0xFF000000000000FF)  -- movi d0, #0xff000000000000ff: bits 7 and 0
     ∷ (ByteMask 1, 0x00000000000000FF)
@@ -146,6 +140,6 @@ pub bytes :
     ∷ (ByteMask 0b10101010, 0xFF00FF00FF00FF00)
     ∷ (ByteMask 0b00001111, 0x00000000FFFFFFFF)
     ∷ (ByteMask 255, 0xFFFFFFFFFFFFFFFF)
-    ∷ []))
+    ∷ [])
 unfolding byteMasks Replicate
-bytes = tt
+bytes = refl

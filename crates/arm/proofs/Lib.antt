@@ -16,3 +16,4 @@ pub mod SignExtends
 -- 8-bit immediates
 pub mod Expand
 pub mod Bytes
+pub mod Worked

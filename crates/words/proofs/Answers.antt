@@ -3,6 +3,7 @@ use mathlib.Core.Path.{_≡_, refl, sym, ap, _∙_}
 use mathlib.Core.List.{List, [], _∷_}
 use Prim.Native.Nat.{ℕ, _≤_}
 use native.Mathlib.Omega.{arith}
+use lib.Dec.{lit≤}
 use lib.ListN.{length, getD}
 use Rattle.words.specs.Said.{Said, ok, no}
 use Rattle.words.specs.Answer.{numberOf, said, made}
@@ -14,44 +15,73 @@ use Rattle.words.specs.declared.Worded.the-variants.{Made, Not}
 use Rattle.words.specs.declared.Written.{Written}
 use Rattle.words.specs.declared.Written.the-variants.{Done, No}
 
+-- ---- what says all of a thing is known by that
+
+-- two things are one where the same is said of them, and each can be made of that again
+pub all-said : {X Y : Type 0} (say : X → Y) (unsay : Y → X) → ((x : X) → unsay (say x) ≡ x) → (r s : X) → say r ≡ say s → r ≡ s
+all-said say unsay back r s e = sym (back r) ∙ ap unsay e ∙ back s
+
 abbrev refusals : List Refusal
 refusals = Width ∷ Width ∷ Register ∷ NoField ∷ Step ∷ Range ∷ Taken ∷ Unknown ∷ NoRoom ∷ Index ∷ ZeroBase ∷ []
 
-back : (r : Refusal) → getD refusals (numberOf r) Width ≡ r
-back Width = refl
-back Register = refl
-back NoField = refl
-back Step = refl
-back Range = refl
-back Taken = refl
-back Unknown = refl
-back NoRoom = refl
-back Index = refl
-back ZeroBase = refl
+-- the refusal of a number
+abbrev pub refusalOf : ℕ → Refusal
+refusalOf n = getD refusals n Width
 
+pub refusal-back : (r : Refusal) → refusalOf (numberOf r) ≡ r
+refusal-back Width = refl
+refusal-back Register = refl
+refusal-back NoField = refl
+refusal-back Step = refl
+refusal-back Range = refl
+refusal-back Taken = refl
+refusal-back Unknown = refl
+refusal-back NoRoom = refl
+refusal-back Index = refl
+refusal-back ZeroBase = refl
+
+-- a number is one refusal's, and is 1 to 10
 pub number-all : (r s : Refusal) → numberOf r ≡ numberOf s → r ≡ s
-number-all r s e = sym (back r) ∙ ap (λ (n : ℕ). getD refusals n Width) e ∙ back s
+number-all = all-said numberOf refusalOf refusal-back
 
--- no number is two refusals' and none is 0
-module _ {A : Type 0} where
-  pub no-number : {m n : ℕ} → _≡_ {A = Said A} (no m) (no n) → m ≡ n
-  no-number e = cc
+pub number-range : (r : Refusal) → (1 ≤ numberOf r) × (numberOf r ≤ 10)
+number-range Width = (lit≤ tt, lit≤ tt)
+number-range Register = (lit≤ tt, lit≤ tt)
+number-range NoField = (lit≤ tt, lit≤ tt)
+number-range Step = (lit≤ tt, lit≤ tt)
+number-range Range = (lit≤ tt, lit≤ tt)
+number-range Taken = (lit≤ tt, lit≤ tt)
+number-range Unknown = (lit≤ tt, lit≤ tt)
+number-range NoRoom = (lit≤ tt, lit≤ tt)
+number-range Index = (lit≤ tt, lit≤ tt)
+number-range ZeroBase = (lit≤ tt, lit≤ tt)
 
-  pub not-both : {a : A} {n : ℕ} → _≡_ {A = Said A} (ok a) (no n) → ⊥
-  not-both e = let z : _≡_ {A = ℕ} 0 1 = cc in omega arith
+-- an answer of two cases: a value, and a refusal
+module _ {A X : Type 0} (value : A → X) (refusal : Refusal → X) where
+  abbrev pub answered : Said A → X
+  answered (ok a) = value a
+  answered (no n) = refusal (refusalOf n)
 
--- what an answer says is all of it
+-- a value is no refusal
+pub not-both : {A : Type 0} {a : A} {n : ℕ} → _≡_ {A = Said A} (ok a) (no n) → ⊥
+not-both e = let z : _≡_ {A = ℕ} 0 1 = cc in omega arith
+
+abbrev doneAt : ℕ → Written
+doneAt n = Done (record { 0 = n })
+
+written-back : (r : Written) → answered doneAt No (said r) ≡ r
+written-back (Done p) = refl
+written-back (No r) = ap No (refusal-back r)
+
 pub said-all : (r s : Written) → said r ≡ said s → r ≡ s
-said-all (Done p) (Done q) e = let same : p .0 ≡ q .0 = cc in ap (λ (n : ℕ). Done (record { 0 = n })) same
-said-all (Done p) (No s) e = absurd (not-both e)
-said-all (No r) (Done q) e = absurd (not-both (sym e))
-said-all (No r) (No s) e = ap No (number-all r s (no-number e))
+said-all = all-said said (answered doneAt No) written-back
+
+made-back : (r : Worded) → answered Made Not (made r) ≡ r
+made-back (Made f) = refl
+made-back (Not r) = ap Not (refusal-back r)
 
 pub made-all : (r s : Worded) → made r ≡ made s → r ≡ s
-made-all (Made f) (Made g) e = let same : f ≡ g = cc in ap Made same
-made-all (Made f) (Not s) e = absurd (not-both e)
-made-all (Not r) (Made g) e = absurd (not-both (sym e))
-made-all (Not r) (Not s) e = ap Not (number-all r s (no-number e))
+made-all = all-said made (answered Made Not) made-back
 
 -- at most four words, by value and back
 pub list-back : (ws : List ℕ) → length ws ≤ 4 → listOf (wordsOf ws) ≡ ws

@@ -1,43 +1,34 @@
--- Each public entry's contract allows one answer, and one run after it. Assumes nothing.
-use mathlib.Core.Path.{_≡_, sym, ap, _∙_}
-use mathlib.Core.Bool.{Bool}
-use mathlib.Core.List.{List}
-use Prim.Native.Nat.{ℕ, _%_, _^_, min}
-use lib.IntN.{ℤ}
-use mir.Syntax.{w64}
-use mir.Val.{toZ, ofZ}
-use Rattle.arm.specs.Bits.{Ones}
-use Rattle.words.specs.Said.{Said}
-use Rattle.words.specs.Answer.{numberOf, said}
-use Rattle.words.specs.Bit.{bitOf}
-use Rattle.words.specs.declared.Refusal.{Refusal}
-use Rattle.words.specs.declared.Written.{Written}
-use Rattle.words.proofs.Answers.{said-all}
+-- Each public entry's contract allows one answer. Assumes nothing.
+use Rattle.words.proofs.Contracts.{OneAnswer, one-answer}
+use Rattle.words.proofs.number.Reads as number
+use Rattle.words.proofs.one.Reads as one
+use Rattle.words.proofs.two.Reads as two
+use Rattle.words.proofs.bit_test.Reads as bit-test
+use Rattle.words.proofs.lsb_mask.Reads as lsb-mask
+use Rattle.words.proofs.low_bits.Reads as low-bits
+use Rattle.words.proofs.signed_of.Reads as signed-of
+use Rattle.words.proofs.bits_of.Reads as bits-of
 
--- two things that a definition gives are one
-pub one-answer : {A : Type 0} {x y z : A} → x ≡ z → y ≡ z → x ≡ y
-one-answer p q = p ∙ sym q
+pub number-determined : OneAnswer number.Post
+number-determined k a r s x y p q = one-answer p q
 
--- an answer and a run, both given
-pub one-write : (x : Said ℕ × List ℕ) (r s : Written) (l m : List ℕ) → (said r, l) ≡ x → (said s, m) ≡ x → (r ≡ s) × (l ≡ m)
-one-write x r s l m p q =
-    let e : _≡_ {A = Said ℕ × List ℕ} (said r, l) (said s, m) = one-answer p q in
-    (said-all r s (ap (λ (k : Said ℕ × List ℕ). k .0) e), ap (λ (k : Said ℕ × List ℕ). k .1) e)
+pub one-determined : OneAnswer one.Post
+one-determined k a r s x y p q = one-answer p q
 
-pub number-determined : (r : Refusal) (m n : ℕ) → m ≡ numberOf r → n ≡ numberOf r → m ≡ n
-number-determined r m n p q = one-answer p q
+pub two-determined : OneAnswer two.Post
+two-determined k a r s x y p q = one-answer p q
 
-pub bit-test-determined : (value n : ℕ) (r s : Bool) → r ≡ bitOf value n → s ≡ bitOf value n → r ≡ s
-bit-test-determined value n r s p q = one-answer p q
+pub bit-test-determined : OneAnswer bit-test.Post
+bit-test-determined k a r s x y p q = one-answer p q
 
-pub lsb-mask-determined : (n r s : ℕ) → r ≡ Ones (min n 64) → s ≡ Ones (min n 64) → r ≡ s
-lsb-mask-determined n r s p q = one-answer p q
+pub lsb-mask-determined : OneAnswer lsb-mask.Post
+lsb-mask-determined k a r s x y p q = one-answer p q
 
-pub low-bits-determined : (x n r s : ℕ) → r ≡ x % 2 ^ min n 64 → s ≡ x % 2 ^ min n 64 → r ≡ s
-low-bits-determined x n r s p q = one-answer p q
+pub low-bits-determined : OneAnswer low-bits.Post
+low-bits-determined k a r s x y p q = one-answer p q
 
-pub signed-of-determined : (x : ℕ) (r s : ℤ) → r ≡ toZ w64 x → s ≡ toZ w64 x → r ≡ s
-signed-of-determined x r s p q = one-answer p q
+pub signed-of-determined : OneAnswer signed-of.Post
+signed-of-determined k a r s x y p q = one-answer p q
 
-pub bits-of-determined : (d : ℤ) (r s : ℕ) → r ≡ ofZ w64 d → s ≡ ofZ w64 d → r ≡ s
-bits-of-determined d r s p q = one-answer p q
+pub bits-of-determined : OneAnswer bits-of.Post
+bits-of-determined k a r s x y p q = one-answer p q

@@ -1,6 +1,6 @@
 -- The laws of words, fields, answers and tables, for the proofs of other crates.
-pub mod Alike
 pub mod Answers
+pub mod Contracts
 pub mod Determined
 pub mod Fields
 pub mod Low

@@ -1,12 +1,14 @@
 // Module 1: positions, distances and opcode words, each a type of its own; the refusals; up to four words by value; masks of low bits, the
 // bit test, and signed numbers as 64 bits.
 ghost use mathlib.Core.Path.{_≡_};
+ghost use mathlib.Core.List.{[], _∷_};
 ghost use Prim.Native.Nat.{_%_, _^_, min};
 ghost use mir.Syntax.{w64};
 ghost use mir.Val.{toZ, ofZ};
 ghost use Rattle.arm.specs.Bits.{Ones};
 ghost use Rattle.words.specs.Answer.{numberOf};
 ghost use Rattle.words.specs.Bit.{bitOf};
+ghost use Rattle.words.specs.Listed.{wordsOf};
 
 // A place in a run of words, counted in words.
 pub struct WordPos(pub usize);
@@ -66,6 +68,32 @@ pub fn number(r: Refusal) -> u32
         Refusal::NoRoom => 8,
         Refusal::Index => 9,
         Refusal::ZeroBase => 10,
+    }
+}
+
+// One word by value.
+pub fn one(w: u32) -> Words
+    ensures { λ r. ⌜ r ≡ wordsOf (w ∷ []) ⌝ }
+{
+    Words {
+        count: 1,
+        a: w,
+        b: 0,
+        c: 0,
+        d: 0,
+    }
+}
+
+// Two words by value.
+pub fn two(v: u32, w: u32) -> Words
+    ensures { λ r. ⌜ r ≡ wordsOf (v ∷ w ∷ []) ⌝ }
+{
+    Words {
+        count: 2,
+        a: v,
+        b: w,
+        c: 0,
+        d: 0,
     }
 }
 

@@ -66,7 +66,7 @@ fn put_words(words: &mut [u32], at: WordPos, f: Words) -> Written
     Written::No(Refusal::NoRoom)
 }
 
-// The words from the position on, or a refusal with the run unchanged.
+// The words from the position on, or a refusal with the run unchanged. A count above four is four.
 pub fn put(words: &mut [u32], at: WordPos, m: Worded) -> Written
     ensures { λ r. ⌜ (said r, now (words .exit)) ≡ putOf (now (words .entry)) (at .0) (listed (made m)) ⌝ }
 {
