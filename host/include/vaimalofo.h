@@ -55,18 +55,18 @@ static inline int64_t vaimalofo_value(uint64_t answer) {
 }
 
 /* A move of a value to a register, 1 to 4 words. Order 2, 8. Value: the number of words. */
-uint64_t vaimalofo_move(uint8_t *bytes, size_t length, size_t position, uint32_t reg, uint64_t value);
+uint64_t vaimalofo_move(uint8_t *bytes, size_t length, size_t position, uint64_t value, uint32_t reg);
 
 /* A move that can be patched: four words at size 64, two at 32, of the low 32 bits. Order 1, 2, 8. Value: the number of words. */
-uint64_t vaimalofo_patchable_move(uint8_t *bytes, size_t length, size_t position, uint32_t size, uint32_t reg,
-                                  uint64_t value);
+uint64_t vaimalofo_patchable_move(uint8_t *bytes, size_t length, size_t position, uint64_t value, uint32_t size,
+                                  uint32_t reg);
 
 /* The fields of a logical immediate at width 32 or 64. Order 1, 3. Value: N * 65536 + S * 256 + R. */
-uint64_t vaimalofo_logical_fields(uint32_t width, uint64_t value);
+uint64_t vaimalofo_logical_fields(uint64_t value, uint32_t width);
 
 /* AND, ORR, EOR or ANDS with an immediate. Order 7, 1, 2, 3, 8. Value: the number of words, 1. */
-uint64_t vaimalofo_logical_word(uint8_t *bytes, size_t length, size_t position, uint32_t operation, uint32_t width,
-                                uint32_t rn, uint32_t rd, uint64_t value);
+uint64_t vaimalofo_logical_word(uint8_t *bytes, size_t length, size_t position, uint32_t operation, uint64_t value,
+                                uint32_t width, uint32_t rn, uint32_t rd);
 
 /* A base word with a distance in bytes in the field of a format. Order 7, 6, 4, 5, 8. Value: the number of words, 1. */
 uint64_t vaimalofo_displacement(uint8_t *bytes, size_t length, size_t position, uint32_t format, uint32_t base,

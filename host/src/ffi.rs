@@ -6,27 +6,27 @@ extern "C" {
         bytes: *mut u8,
         length: usize,
         position: usize,
-        register: u32,
         value: u64,
+        register: u32,
     ) -> u64;
     fn vaimalofo_patchable_move(
         bytes: *mut u8,
         length: usize,
         position: usize,
+        value: u64,
         size: u32,
         register: u32,
-        value: u64,
     ) -> u64;
-    fn vaimalofo_logical_fields(width: u32, value: u64) -> u64;
+    fn vaimalofo_logical_fields(value: u64, width: u32) -> u64;
     fn vaimalofo_logical_word(
         bytes: *mut u8,
         length: usize,
         position: usize,
         operation: u32,
+        value: u64,
         width: u32,
         rn: u32,
         rd: u32,
-        value: u64,
     ) -> u64;
     fn vaimalofo_displacement(
         bytes: *mut u8,
@@ -49,41 +49,41 @@ extern "C" {
 }
 
 #[inline]
-pub fn mov(bytes: &mut [u8], position: usize, register: u32, value: u64) -> u64 {
+pub fn mov(bytes: &mut [u8], position: usize, value: u64, register: u32) -> u64 {
     // SAFETY: pointer and length are the slice's, lent for the call.
-    unsafe { vaimalofo_move(bytes.as_mut_ptr(), bytes.len(), position, register, value) }
+    unsafe { vaimalofo_move(bytes.as_mut_ptr(), bytes.len(), position, value, register) }
 }
 
 #[inline]
 pub fn patchable_mov(
     bytes: &mut [u8],
     position: usize,
+    value: u64,
     size: u32,
     register: u32,
-    value: u64,
 ) -> u64 {
     let (start, length) = (bytes.as_mut_ptr(), bytes.len());
     // SAFETY: pointer and length are the slice's, lent for the call.
-    unsafe { vaimalofo_patchable_move(start, length, position, size, register, value) }
+    unsafe { vaimalofo_patchable_move(start, length, position, value, size, register) }
 }
 
 #[inline]
-pub fn logical_fields(width: u32, value: u64) -> u64 {
+pub fn logical_fields(value: u64, width: u32) -> u64 {
     // SAFETY: numbers alone.
-    unsafe { vaimalofo_logical_fields(width, value) }
+    unsafe { vaimalofo_logical_fields(value, width) }
 }
 
 #[inline]
 pub fn logical_word(
     bytes: &mut [u8],
     position: usize,
-    (operation, width): (u32, u32),
+    operation: u32,
+    (value, width): (u64, u32),
     (rn, rd): (u32, u32),
-    value: u64,
 ) -> u64 {
     let (start, length) = (bytes.as_mut_ptr(), bytes.len());
     // SAFETY: pointer and length are the slice's, lent for the call.
-    unsafe { vaimalofo_logical_word(start, length, position, operation, width, rn, rd, value) }
+    unsafe { vaimalofo_logical_word(start, length, position, operation, value, width, rn, rd) }
 }
 
 #[inline]

@@ -11,7 +11,7 @@
 //! use vaimalofo::{displacement, format, mov, ByteDistance, WordPos};
 //!
 //! let mut code = [0; 16];
-//! let at = mov(&mut code, WordPos(0), 0, 0x12345678)?;
+//! let at = mov(&mut code, WordPos(0), 0x12345678, 0)?;
 //! let at = displacement(&mut code, at, format::BRANCH_26, 0x14000000, ByteDistance(-8))?;
 //! assert_eq!(at, WordPos(3));
 //! assert_eq!(vaimalofo::words(&code[..12]), [0xD28ACF00, 0xF2A24680, 0x17FFFFFE]);
@@ -101,19 +101,19 @@ fn after(position: WordPos, number: u64) -> Result<WordPos, Refusal> {
 /// use vaimalofo::{mov, words, Refusal, WordPos};
 ///
 /// let mut code = [0; 8];
-/// assert_eq!(mov(&mut code, WordPos(0), 1, 0xFFFFFFFE), Ok(WordPos(1)));
+/// assert_eq!(mov(&mut code, WordPos(0), 0xFFFFFFFE, 1), Ok(WordPos(1)));
 /// assert_eq!(words(&code), [0x12800021, 0]);
-/// assert_eq!(mov(&mut code, WordPos(1), 0, 0x12345678), Err(Refusal::NoRoom));
-/// assert_eq!(mov(&mut code, WordPos(0), 31, 0), Err(Refusal::Register));
+/// assert_eq!(mov(&mut code, WordPos(1), 0x12345678, 0), Err(Refusal::NoRoom));
+/// assert_eq!(mov(&mut code, WordPos(0), 0, 31), Err(Refusal::Register));
 /// ```
 #[inline]
 pub fn mov(
     bytes: &mut [u8],
     position: WordPos,
-    register: u32,
     value: u64,
+    register: u32,
 ) -> Result<WordPos, Refusal> {
-    after(position, ffi::mov(bytes, position.0, register, value))
+    after(position, ffi::mov(bytes, position.0, value, register))
 }
 
 /// Writes a move whose value can be patched later: always four words at a register size of 64, two at 32, where only the low 32 bits
@@ -126,20 +126,20 @@ pub fn mov(
 /// use vaimalofo::{patchable_mov, words, Refusal, WordPos};
 ///
 /// let mut code = [0; 8];
-/// assert_eq!(patchable_mov(&mut code, WordPos(0), 32, 2, 7), Ok(WordPos(2)));
+/// assert_eq!(patchable_mov(&mut code, WordPos(0), 7, 32, 2), Ok(WordPos(2)));
 /// assert_eq!(words(&code), [0x528000E2, 0x72A00002]);
-/// assert_eq!(patchable_mov(&mut code, WordPos(0), 64, 2, 7), Err(Refusal::NoRoom));
-/// assert_eq!(patchable_mov(&mut code, WordPos(0), 16, 2, 7), Err(Refusal::Width));
+/// assert_eq!(patchable_mov(&mut code, WordPos(0), 7, 64, 2), Err(Refusal::NoRoom));
+/// assert_eq!(patchable_mov(&mut code, WordPos(0), 7, 16, 2), Err(Refusal::Width));
 /// ```
 #[inline]
 pub fn patchable_mov(
     bytes: &mut [u8],
     position: WordPos,
+    value: u64,
     size: u32,
     register: u32,
-    value: u64,
 ) -> Result<WordPos, Refusal> {
-    after(position, ffi::patchable_mov(bytes, position.0, size, register, value))
+    after(position, ffi::patchable_mov(bytes, position.0, value, size, register))
 }
 
 /// The fields that spell a value as a logical immediate at width 32 or 64; width 32 ignores the higher bits.
@@ -150,14 +150,14 @@ pub fn patchable_mov(
 /// ```
 /// use vaimalofo::{logical_fields, Fields, Refusal};
 ///
-/// assert_eq!(logical_fields(64, 0xFF), Ok(Fields { n: 1, s: 7, r: 0 }));
-/// assert_eq!(logical_fields(32, 0x1000000FF), Ok(Fields { n: 0, s: 7, r: 0 }));
-/// assert_eq!(logical_fields(64, 5), Err(Refusal::NoField));
-/// assert_eq!(logical_fields(16, 5), Err(Refusal::Width));
+/// assert_eq!(logical_fields(0xFF, 64), Ok(Fields { n: 1, s: 7, r: 0 }));
+/// assert_eq!(logical_fields(0x1000000FF, 32), Ok(Fields { n: 0, s: 7, r: 0 }));
+/// assert_eq!(logical_fields(5, 64), Err(Refusal::NoField));
+/// assert_eq!(logical_fields(5, 16), Err(Refusal::Width));
 /// ```
 #[inline]
-pub fn logical_fields(width: u32, value: u64) -> Result<Fields, Refusal> {
-    let fields = answer(ffi::logical_fields(width, value))? as u32;
+pub fn logical_fields(value: u64, width: u32) -> Result<Fields, Refusal> {
+    let fields = answer(ffi::logical_fields(value, width))? as u32;
     Ok(Fields { n: fields >> 16, s: fields >> 8 & 0xFF, r: fields & 0xFF })
 }
 
@@ -198,7 +198,7 @@ pub fn logical_word(
     value: u64,
 ) -> Result<WordPos, Refusal> {
     let Logical { operation, width, rn, rd } = instruction;
-    after(position, ffi::logical_word(bytes, position.0, (operation, width), (rn, rd), value))
+    after(position, ffi::logical_word(bytes, position.0, operation, (value, width), (rn, rd)))
 }
 
 /// Writes a base word with a distance placed in the field of a [`mod@format`]. The distance counts from the instruction; for ADRP, from

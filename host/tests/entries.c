@@ -54,34 +54,34 @@ static void moves(void) {
     const uint32_t patchable[] = {0xD2800005, 0xF2A00005, 0xF2C00005, 0xF2E00005};
     for (size_t tail = 0; tail < 4; tail++) {
         watch(&w, 3, tail);
-        wrote("move", &w, vaimalofo_move(w.run, w.length, 1, 0, 0x12345678), 1, 2, two);
+        wrote("move", &w, vaimalofo_move(w.run, w.length, 1, 0x12345678, 0), 1, 2, two);
         watch(&w, 2, tail);
-        refused("move 8", &w, vaimalofo_move(w.run, w.length, 1, 0, 0x12345678), VAIMALOFO_NO_ROOM);
+        refused("move 8", &w, vaimalofo_move(w.run, w.length, 1, 0x12345678, 0), VAIMALOFO_NO_ROOM);
         refused("move 8, past", &w, vaimalofo_move(w.run, w.length, SIZE_MAX, 0, 0), VAIMALOFO_NO_ROOM);
-        refused("move 2", &w, vaimalofo_move(w.run, w.length, 9, 31, 0), VAIMALOFO_REGISTER);
+        refused("move 2", &w, vaimalofo_move(w.run, w.length, 9, 0, 31), VAIMALOFO_REGISTER);
         watch(&w, 4, tail);
-        wrote("patchable", &w, vaimalofo_patchable_move(w.run, w.length, 0, 64, 5, 0), 0, 4, patchable);
+        wrote("patchable", &w, vaimalofo_patchable_move(w.run, w.length, 0, 0, 64, 5), 0, 4, patchable);
         watch(&w, 3, tail);
-        refused("patchable 8", &w, vaimalofo_patchable_move(w.run, w.length, 0, 64, 5, 0), VAIMALOFO_NO_ROOM);
-        refused("patchable 2", &w, vaimalofo_patchable_move(w.run, w.length, 0, 64, 31, 0), VAIMALOFO_REGISTER);
-        refused("patchable 1", &w, vaimalofo_patchable_move(w.run, w.length, 0, 16, 31, 0), VAIMALOFO_WIDTH);
+        refused("patchable 8", &w, vaimalofo_patchable_move(w.run, w.length, 0, 0, 64, 5), VAIMALOFO_NO_ROOM);
+        refused("patchable 2", &w, vaimalofo_patchable_move(w.run, w.length, 0, 0, 64, 31), VAIMALOFO_REGISTER);
+        refused("patchable 1", &w, vaimalofo_patchable_move(w.run, w.length, 0, 0, 16, 31), VAIMALOFO_WIDTH);
     }
 }
 
 static void logical(void) {
     struct watched w;
     const uint32_t and_ff[] = {0x92401C20};
-    same("fields", vaimalofo_value(vaimalofo_logical_fields(64, 0x8000000000000001)), 1 * 65536 + 1 * 256 + 1);
-    same("fields 3", (int64_t)vaimalofo_logical_fields(64, 5), VAIMALOFO_NO_FIELD);
-    same("fields 1", (int64_t)vaimalofo_logical_fields(16, 5), VAIMALOFO_WIDTH);
+    same("fields", vaimalofo_value(vaimalofo_logical_fields(0x8000000000000001, 64)), 1 * 65536 + 1 * 256 + 1);
+    same("fields 3", (int64_t)vaimalofo_logical_fields(5, 64), VAIMALOFO_NO_FIELD);
+    same("fields 1", (int64_t)vaimalofo_logical_fields(5, 16), VAIMALOFO_WIDTH);
     watch(&w, 1, 3);
-    wrote("word", &w, vaimalofo_logical_word(w.run, w.length, 0, VAIMALOFO_AND, 64, 1, 0, 0xFF), 0, 1, and_ff);
+    wrote("word", &w, vaimalofo_logical_word(w.run, w.length, 0, VAIMALOFO_AND, 0xFF, 64, 1, 0), 0, 1, and_ff);
     watch(&w, 1, 3);
-    refused("word 7", &w, vaimalofo_logical_word(w.run, w.length, 1, 4, 16, 32, 0, 0), VAIMALOFO_UNKNOWN);
-    refused("word 1", &w, vaimalofo_logical_word(w.run, w.length, 1, 0, 16, 32, 0, 0), VAIMALOFO_WIDTH);
-    refused("word 2", &w, vaimalofo_logical_word(w.run, w.length, 1, 0, 32, 0, 32, 0), VAIMALOFO_REGISTER);
-    refused("word 3", &w, vaimalofo_logical_word(w.run, w.length, 1, 0, 32, 0, 31, 0), VAIMALOFO_NO_FIELD);
-    refused("word 8", &w, vaimalofo_logical_word(w.run, w.length, 1, 0, 32, 0, 31, 1), VAIMALOFO_NO_ROOM);
+    refused("word 7", &w, vaimalofo_logical_word(w.run, w.length, 1, 4, 0, 16, 32, 0), VAIMALOFO_UNKNOWN);
+    refused("word 1", &w, vaimalofo_logical_word(w.run, w.length, 1, 0, 0, 16, 32, 0), VAIMALOFO_WIDTH);
+    refused("word 2", &w, vaimalofo_logical_word(w.run, w.length, 1, 0, 0, 32, 0, 32), VAIMALOFO_REGISTER);
+    refused("word 3", &w, vaimalofo_logical_word(w.run, w.length, 1, 0, 0, 32, 0, 31), VAIMALOFO_NO_FIELD);
+    refused("word 8", &w, vaimalofo_logical_word(w.run, w.length, 1, 0, 1, 32, 0, 31), VAIMALOFO_NO_ROOM);
 }
 
 static void displacements(void) {

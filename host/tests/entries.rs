@@ -64,48 +64,48 @@ fn moves() {
         (7, 0x1234_FFFF_5678_FFFF, &[0x92B530E7, 0xF2E24687]),
     ];
     for (register, value, expected) in cases {
-        at_every_place(expected, |run, at| mov(run, at, register, value));
+        at_every_place(expected, |run, at| mov(run, at, value, register));
     }
     for register in [31, 32, 63, u32::MAX] {
-        refused(Refusal::Register, |run, at| mov(run, at, register, 1));
+        refused(Refusal::Register, |run, at| mov(run, at, 1, register));
     }
 }
 
 #[test]
 fn patchable_moves() {
     at_every_place(&[0xD2800005, 0xF2A00005, 0xF2C00005, 0xF2E00005], |run, at| {
-        patchable_mov(run, at, 64, 5, 0)
+        patchable_mov(run, at, 0, 64, 5)
     });
     at_every_place(&[0xD29BDE1E, 0xF2B3579E, 0xF2CACF1E, 0xF2E2469E], |run, at| {
-        patchable_mov(run, at, 64, 30, 0x1234_5678_9ABC_DEF0)
+        patchable_mov(run, at, 0x1234_5678_9ABC_DEF0, 64, 30)
     });
     at_every_place(&[0x529BDE1E, 0x72B3579E], |run, at| {
-        patchable_mov(run, at, 32, 30, 0x1234_5678_9ABC_DEF0)
+        patchable_mov(run, at, 0x1234_5678_9ABC_DEF0, 32, 30)
     });
     for size in [0, 16, 31, 33, 63, 65, 128, u32::MAX] {
-        refused(Refusal::Width, |run, at| patchable_mov(run, at, size, 31, 0));
+        refused(Refusal::Width, |run, at| patchable_mov(run, at, 0, size, 31));
     }
     for size in [32, 64] {
-        refused(Refusal::Register, |run, at| patchable_mov(run, at, size, 31, 0));
+        refused(Refusal::Register, |run, at| patchable_mov(run, at, 0, size, 31));
     }
 }
 
 #[test]
 fn fields() {
     let fields = |n, s, r| Ok(Fields { n, s, r });
-    assert_eq!(logical_fields(64, 0xFF), fields(1, 7, 0));
-    assert_eq!(logical_fields(32, 0x1000000FF), fields(0, 7, 0));
-    assert_eq!(logical_fields(64, 0xAAAA_AAAA_AAAA_AAAA), fields(0, 60, 1));
-    assert_eq!(logical_fields(64, 0x8000_0000_0000_0001), fields(1, 1, 1));
-    assert_eq!(logical_fields(64, 0x7FFF_FFFF_FFFF_FFFF), fields(1, 62, 0));
-    assert_eq!(logical_fields(64, !1), fields(1, 62, 63));
+    assert_eq!(logical_fields(0xFF, 64), fields(1, 7, 0));
+    assert_eq!(logical_fields(0x1000000FF, 32), fields(0, 7, 0));
+    assert_eq!(logical_fields(0xAAAA_AAAA_AAAA_AAAA, 64), fields(0, 60, 1));
+    assert_eq!(logical_fields(0x8000_0000_0000_0001, 64), fields(1, 1, 1));
+    assert_eq!(logical_fields(0x7FFF_FFFF_FFFF_FFFF, 64), fields(1, 62, 0));
+    assert_eq!(logical_fields(!1, 64), fields(1, 62, 63));
     for (width, value) in
         [(64, 5), (64, 0), (64, u64::MAX), (32, 0), (32, 0xFFFFFFFF), (32, 0xFFFFFFFF_00000000)]
     {
-        assert_eq!(logical_fields(width, value), Err(Refusal::NoField));
+        assert_eq!(logical_fields(value, width), Err(Refusal::NoField));
     }
     for width in [0, 2, 16, 31, 33, 128, u32::MAX] {
-        assert_eq!(logical_fields(width, 1), Err(Refusal::Width));
+        assert_eq!(logical_fields(1, width), Err(Refusal::Width));
     }
 }
 

@@ -53,10 +53,10 @@ fn put(bytes: &mut [u8], position: usize, m: Worded) -> u64
 pub extern "C" fn vaimalofo_move(
     bytes: &mut [u8],
     position: usize,
-    register: u32,
     value: u64,
+    register: u32,
 ) -> u64
-    ensures { λ r. ⌜ (r, now (bytes .exit)) ≡ hostOf position (putBytesOf (now (bytes .entry)) position (movSaid register value)) ⌝ }
+    ensures { λ r. ⌜ (r, now (bytes .exit)) ≡ hostOf position (putBytesOf (now (bytes .entry)) position (movSaid value register)) ⌝ }
 {
     put(bytes, position, moves::mov_words(value, register))
 }
@@ -66,16 +66,16 @@ pub extern "C" fn vaimalofo_move(
 pub extern "C" fn vaimalofo_patchable_move(
     bytes: &mut [u8],
     position: usize,
+    value: u64,
     size: u32,
     register: u32,
-    value: u64,
 ) -> u64
-    ensures { λ r. ⌜ (r, now (bytes .exit)) ≡ hostOf position (putBytesOf (now (bytes .entry)) position (patchSaid size value register)) ⌝ }
+    ensures { λ r. ⌜ (r, now (bytes .exit)) ≡ hostOf position (putBytesOf (now (bytes .entry)) position (patchSaid value size register)) ⌝ }
 {
     put(
         bytes,
         position,
-        patchable_moves::patchable_mov_words(size, value, register),
+        patchable_moves::patchable_mov_words(value, size, register),
     )
 }
 
@@ -89,7 +89,7 @@ fn spelled(f: LogicalImm) -> u64
 
 // The fields that spell the low bits of a value, at width 32 or 64: 1, 3.
 #[no_mangle]
-pub extern "C" fn vaimalofo_logical_fields(width: u32, value: u64) -> u64
+pub extern "C" fn vaimalofo_logical_fields(value: u64, width: u32) -> u64
     ensures { λ r. ⌜ ForFields width value (λ a. r ≡ told (spelled a)) ⌝ }
 {
     match logical::encode_logical_imm(value, width) {
@@ -104,17 +104,17 @@ pub extern "C" fn vaimalofo_logical_word(
     bytes: &mut [u8],
     position: usize,
     operation: u32,
+    value: u64,
     width: u32,
     rn: u32,
     rd: u32,
-    value: u64,
 ) -> u64
-    ensures { λ r. ⌜ ForWord operation width value rn rd (λ x. (r, now (bytes .exit)) ≡ hostOf position (putBytesOf (now (bytes .entry)) position x)) ⌝ }
+    ensures { λ r. ⌜ ForWord operation value width rn rd (λ x. (r, now (bytes .exit)) ≡ hostOf position (putBytesOf (now (bytes .entry)) position x)) ⌝ }
 {
     put(
         bytes,
         position,
-        logical_words::logical_word(operation, width, value, rn, rd),
+        logical_words::logical_word(operation, value, width, rn, rd),
     )
 }
 

@@ -8,12 +8,10 @@ use native.Mathlib.Nat.{eq-or-lt-of-le, le-of-lt, le-of-suc-le-suc}
 use mathlib.Core.Logic.{⊎-elim}
 use borrow.Author.Tests.{leb-true, leb-false}
 use lib.Dec.{eqb, ltb, leb}
-use lib.ListN.{length, getD}
-use Rattle.words.specs.Answer.{numberOf}
+use lib.ListN.{length}
 use Rattle.words.specs.Listed.{wordsOf}
-use Rattle.words.specs.declared.Refusal.{Refusal}
-use Rattle.words.specs.declared.Refusal.the-variants.{Width, Register, NoField, Step, Range, Taken, Unknown, NoRoom, Index, ZeroBase}
-use Rattle.words.proofs.Determined.{one-answer}
+use Rattle.words.proofs.Answers.{refusalOf, refusal-back}
+use Rattle.words.proofs.Contracts.{OneAnswer, one-answer}
 use Rattle.lines.specs.Item.{Item, words, numbers, no, badMark, cutAt, itemsOf}
 use Rattle.lines.specs.declared.Answer.{Answer}
 use Rattle.lines.specs.declared.Answer.the-variants.{Nothing, Words, Numbers, No, BadMark, Cut}
@@ -21,30 +19,17 @@ use Rattle.logical.proofs.Laws.{encoded-one}
 use Rattle.immediates.proofs.Determined.{one-float}
 use Rattle.records.specs.Records.{Asked, move, fields, fp64, other, marked, kindOf, registerOf, valueOf, askedBy, fieldsLine, floatLine, Says, LineOf, tailOf}
 use Rattle.records.specs.Answers.{Plain, OneLine}
+use Rattle.records.proofs.answer.Reads as answer
+use Rattle.records.proofs.tail.Reads as tail
 use Rattle.records.specs.Inputs.{recordAt, offsetAt, endsAt, Told, none, more, Prints, whole, ended}
 
 -- ---- an answer is known by its line
-
-abbrev refusals : List Refusal
-refusals = Width ∷ Width ∷ Register ∷ NoField ∷ Step ∷ Range ∷ Taken ∷ Unknown ∷ NoRoom ∷ Index ∷ ZeroBase ∷ []
-
-back : (r : Refusal) → getD refusals (numberOf r) Width ≡ r
-back Width = refl
-back Register = refl
-back NoField = refl
-back Step = refl
-back Range = refl
-back Taken = refl
-back Unknown = refl
-back NoRoom = refl
-back Index = refl
-back ZeroBase = refl
 
 abbrev answerOf : List Item → Answer
 answerOf [] = Nothing
 answerOf (words ws ∷ is) = Words (wordsOf ws)
 answerOf (numbers ns ∷ is) = Numbers (wordsOf ns)
-answerOf (no n ∷ is) = No (getD refusals n Width)
+answerOf (no n ∷ is) = No (refusalOf n)
 answerOf (badMark o ∷ is) = BadMark o
 answerOf (cutAt o ∷ is) = Cut o
 
@@ -52,7 +37,7 @@ plain-back : (a : Answer) → Plain a → answerOf (itemsOf a) ≡ a
 plain-back Nothing p = refl
 plain-back (Words f) p = ap Words (sym p)
 plain-back (Numbers f) p = ap Numbers (sym p)
-plain-back (No r) p = ap No (back r)
+plain-back (No r) p = ap No (refusal-back r)
 plain-back (BadMark o) p = refl
 plain-back (Cut o) p = refl
 
@@ -78,9 +63,9 @@ line-one r offset i j p q = go (marked r) p q
     go true p q = says-one (askedBy (kindOf r)) (registerOf r) (valueOf r) i j p q
     go false p q = one-answer p q
 
-pub answer-determined : (r : List ℕ) (offset : ℕ) (a b : Answer) → OneLine (LineOf r offset) a → OneLine (LineOf r offset) b → a ≡ b
-answer-determined r offset a b p q =
-    plain-all a b (p .plain) (q .plain) (p .line ∙ ap (λ (i : Item). i ∷ []) (line-one r offset (p .item) (q .item) (p .says) (q .says)) ∙ sym (q .line))
+pub answer-determined : OneAnswer answer.Post
+answer-determined k a r s x y p q =
+    plain-all r s (p .plain) (q .plain) (p .line ∙ ap (λ (i : Item). i ∷ []) (line-one _ _ (p .item) (q .item) (p .says) (q .says)) ∙ sym (q .line))
 
 -- ---- a tail
 
@@ -109,9 +94,9 @@ bare-tail count offset = go (eqb count 0) (ltb count 12)
     go false true = tt
     go false false = tt
 
-pub tail-determined : (count offset : ℕ) (a b : Answer) → itemsOf a ≡ tailOf count offset → itemsOf b ≡ tailOf count offset → a ≡ b
-tail-determined count offset a b p q =
-    plain-all a b (bare-plain a (rw p (bare-tail count offset))) (bare-plain b (rw q (bare-tail count offset))) (one-answer p q)
+pub tail-determined : OneAnswer tail.Post
+tail-determined k a r s x y p q =
+    plain-all r s (bare-plain r (rw p (bare-tail _ _))) (bare-plain s (rw q (bare-tail _ _))) (one-answer p q)
 
 -- ---- an input
 

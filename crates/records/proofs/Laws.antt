@@ -22,15 +22,15 @@ use Rattle.records.specs.Inputs.{endsAt}
 -- ---- moves
 
 module _ (rd v : ℕ) where
-  pub move-made : (f : Words) → _≡_ {A = Said Words} (ok f) (packed (movSaid rd v)) → OneLine (Says move rd v) (answer.Words f)
+  pub move-made : (f : Words) → _≡_ {A = Said Words} (ok f) (packed (movSaid v rd)) → OneLine (Says move rd v) (answer.Words f)
   move-made f h =
-      let e : _≡_ {A = Said (List ℕ)} (ok (listOf f)) (movSaid rd v) = ap listed h ∙ listed-packed (movSaid rd v) (mov-short rd v) in
+      let e : _≡_ {A = Said (List ℕ)} (ok (listOf f)) (movSaid v rd) = ap listed h ∙ listed-packed (movSaid v rd) (mov-short rd v) in
       let p : _≡_ {A = Said Words} (ok f) (ok (wordsOf (listOf f))) = h ∙ ap packed (sym e) in
       record { item = _; line = refl; plain = cc; says = ap wordsLine e }
 
-  pub move-not : (r : Refusal) → _≡_ {A = Said Words} (no (numberOf r)) (packed (movSaid rd v)) → OneLine (Says move rd v) (answer.No r)
+  pub move-not : (r : Refusal) → _≡_ {A = Said Words} (no (numberOf r)) (packed (movSaid v rd)) → OneLine (Says move rd v) (answer.No r)
   move-not r h =
-      let e : _≡_ {A = Said (List ℕ)} (no (numberOf r)) (movSaid rd v) = ap listed h ∙ listed-packed (movSaid rd v) (mov-short rd v) in
+      let e : _≡_ {A = Said (List ℕ)} (no (numberOf r)) (movSaid v rd) = ap listed h ∙ listed-packed (movSaid v rd) (mov-short rd v) in
       record { item = _; line = refl; plain = tt; says = ap wordsLine e }
 
 -- ---- only a bad mark is the end
@@ -48,7 +48,7 @@ float-go (ok b) = refl
 float-go (no n) = refl
 
 says-go : (k : Asked) (rd v : ℕ) (i : Item) → Says k rd v i → endsAt i ≡ false
-says-go move rd v i s = rw s (words-go (movSaid rd v))
+says-go move rd v i s = rw s (words-go (movSaid v rd))
 says-go (fields w) rd v i (a, e, s) = rw s (fields-go a)
 says-go fp64 rd v i (a, e, s) = rw s (float-go a)
 says-go other rd v i s = rw s refl

@@ -21,7 +21,7 @@ use Rattle.records.proofs.Determined.{prints-determined}
 -- ---- a record
 
 abbrev saysOf : Asked → ℕ → ℕ → Item
-saysOf move rd v = wordsLine (movSaid rd v)
+saysOf move rd v = wordsLine (movSaid v rd)
 saysOf (fields w) rd v = fieldsLine (encodeOf w v)
 saysOf asked.fp64 rd v = floatLine (floatOf 64 v)
 saysOf other rd v = no 7

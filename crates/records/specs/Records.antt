@@ -61,7 +61,7 @@ floatLine (no n) = item.no n
 
 -- the line is that of an answer which the encoder's contract allows (it allows one); "others print `no 7`"; "The register counts in kind 1 only"
 abbrev pub Says : Asked → (register value : ℕ) → Item → Type 0
-Says move register value i = i ≡ wordsLine (movSaid register value)
+Says move register value i = i ≡ wordsLine (movSaid value register)
 Says (fields w) register value i = (a : Said LogicalImm) × Encoded w value a × (i ≡ fieldsLine a)
 Says fp64 register value i = (a : Said ℕ) × FloatSays 64 value a × (i ≡ floatLine a)
 Says other register value i = i ≡ item.no 7

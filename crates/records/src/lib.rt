@@ -4,7 +4,6 @@ use lines::Answer;
 use logical::LogicalAnswer;
 use words::Refusal;
 use words::Worded;
-use words::Words;
 ghost use mathlib.Core.Path.{_≡_};
 ghost use Prim.Native.Nat.{_+_, _*_, _^_, _<_};
 ghost use Rattle.lines.specs.Item.{itemsOf};
@@ -52,13 +51,7 @@ fn of_fields(value: u64, width: u32) -> Answer
     ensures { λ a. ⌜ OneLine (Says (Asked.fields width) 0 value) a ⌝ }
 {
     match logical::encode_logical_imm(value, width) {
-        LogicalAnswer::Fields(f) => Answer::Numbers(Words {
-            count: 3,
-            a: f.n,
-            b: f.s,
-            c: f.r,
-            d: 0,
-        }),
+        LogicalAnswer::Fields(f) => Answer::Numbers(words::three(f.n, f.s, f.r)),
         LogicalAnswer::NoFields(r) => Answer::No(r),
     }
 }
@@ -67,14 +60,8 @@ fn of_fields(value: u64, width: u32) -> Answer
 fn of_float(value: u64) -> Answer
     ensures { λ a. ⌜ OneLine (Says Asked.fp64 0 value) a ⌝ }
 {
-    match immediates::encode_fp_to_imm8(64, value) {
-        Imm8Answer::Imm8(b) => Answer::Numbers(Words {
-            count: 1,
-            a: b as u32,
-            b: 0,
-            c: 0,
-            d: 0,
-        }),
+    match immediates::encode_fp_to_imm8(value, 64) {
+        Imm8Answer::Imm8(b) => Answer::Numbers(words::one(b as u32)),
         Imm8Answer::NoImm8(r) => Answer::No(r),
     }
 }

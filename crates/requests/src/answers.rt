@@ -14,17 +14,10 @@ use size_ops::SizeOpAnswer;
 use size_ops::SizeOpMap;
 use words::Opc;
 use words::Refusal;
-use words::Words;
 
 // A number, yes or no, and the two halves of 64 bits.
 pub(crate) fn one(x: u32) -> Answer {
-    Answer::Numbers(Words {
-        count: 1,
-        a: x,
-        b: 0,
-        c: 0,
-        d: 0,
-    })
+    Answer::Numbers(words::one(x))
 }
 
 fn yes(b: bool) -> Answer {
@@ -32,13 +25,7 @@ fn yes(b: bool) -> Answer {
 }
 
 fn halves(x: u64) -> Answer {
-    Answer::Words(Words {
-        count: 2,
-        a: (x / 4294967296) as u32,
-        b: low(x),
-        c: 0,
-        d: 0,
-    })
+    Answer::Words(words::two((x / 4294967296) as u32, low(x)))
 }
 
 // Module 1.
@@ -76,13 +63,7 @@ fn checks(r: Request) -> Answer {
 
 fn fields(a: LogicalAnswer) -> Answer {
     match a {
-        LogicalAnswer::Fields(f) => Answer::Numbers(Words {
-            count: 3,
-            a: f.n,
-            b: f.s,
-            c: f.r,
-            d: 0,
-        }),
+        LogicalAnswer::Fields(f) => Answer::Numbers(words::three(f.n, f.s, f.r)),
         LogicalAnswer::NoFields(r) => Answer::No(r),
     }
 }
@@ -132,7 +113,7 @@ fn imm8(a: Imm8Answer) -> Answer {
 fn small(r: Request) -> Answer {
     let k = r.entry;
     match k {
-        128 => imm8(immediates::encode_fp_to_imm8(low(r.a), r.b)),
+        128 => imm8(immediates::encode_fp_to_imm8(r.a, low(r.b))),
         129 => yes(immediates::is_fp16_imm8(low(r.a))),
         130 => yes(immediates::is_fp32_imm8(low(r.a))),
         131 => yes(immediates::is_fp64_imm8(r.a)),
@@ -144,13 +125,7 @@ fn small(r: Request) -> Answer {
 
 fn lmh(a: LmhAnswer) -> Answer {
     match a {
-        LmhAnswer::Lmh(x) => Answer::Numbers(Words {
-            count: 3,
-            a: x.lm,
-            b: x.h,
-            c: x.max_rm_id,
-            d: 0,
-        }),
+        LmhAnswer::Lmh(x) => Answer::Numbers(words::three(x.lm, x.h, x.max_rm_id)),
         LmhAnswer::NoLmh(r) => Answer::No(r),
     }
 }
@@ -169,13 +144,7 @@ fn size_op(r: Request) -> Answer {
 
 fn pick(a: PickAnswer) -> Answer {
     match a {
-        PickAnswer::Picked(w, size) => Answer::Numbers(Words {
-            count: 2,
-            a: w.0,
-            b: size,
-            c: 0,
-            d: 0,
-        }),
+        PickAnswer::Picked(w, size) => Answer::Numbers(words::two(w.0, size)),
         PickAnswer::NoPick(r) => Answer::No(r),
     }
 }

@@ -134,7 +134,7 @@ fn put(r: Request, run: &mut [u32]) -> Written {
 
 fn logical_word(r: Request, run: &mut [u32]) -> Written {
     let at = WordPos(r.g as usize);
-    logical_words::emit_logical_imm(run, at, low(r.a), low(r.b), r.c, low(r.d), low(r.e))
+    logical_words::emit_logical_imm(run, at, low(r.a), r.b, low(r.c), low(r.d), low(r.e))
 }
 
 fn move_to(r: Request, run: &mut [u32]) -> Written {
@@ -142,7 +142,7 @@ fn move_to(r: Request, run: &mut [u32]) -> Written {
 }
 
 fn patchable(r: Request, run: &mut [u32]) -> Written {
-    patchable_moves::encode_patchable_mov_imm(run, WordPos(r.e as usize), low(r.a), r.b, low(r.c))
+    patchable_moves::encode_patchable_mov_imm(run, WordPos(r.e as usize), r.a, low(r.b), low(r.c))
 }
 
 fn by_distance(r: Request, run: &mut [u32]) -> Written {

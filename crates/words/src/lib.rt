@@ -71,30 +71,35 @@ pub fn number(r: Refusal) -> u32
     }
 }
 
-// One word by value.
-pub fn one(w: u32) -> Words
-    ensures { λ r. ⌜ r ≡ wordsOf (w ∷ []) ⌝ }
+// Up to three numbers by value, of which `count` are used.
+fn upto(count: usize, a: u32, b: u32, c: u32) -> Words
+    ensures { λ r. ⌜ r ≡ record { count = count; a = a; b = b; c = c; d = 0 } ⌝ }
 {
     Words {
-        count: 1,
-        a: w,
-        b: 0,
-        c: 0,
+        count,
+        a,
+        b,
+        c,
         d: 0,
     }
 }
 
-// Two words by value.
+pub fn one(w: u32) -> Words
+    ensures { λ r. ⌜ r ≡ wordsOf (w ∷ []) ⌝ }
+{
+    upto(1, w, 0, 0)
+}
+
 pub fn two(v: u32, w: u32) -> Words
     ensures { λ r. ⌜ r ≡ wordsOf (v ∷ w ∷ []) ⌝ }
 {
-    Words {
-        count: 2,
-        a: v,
-        b: w,
-        c: 0,
-        d: 0,
-    }
+    upto(2, v, w, 0)
+}
+
+pub fn three(u: u32, v: u32, w: u32) -> Words
+    ensures { λ r. ⌜ r ≡ wordsOf (u ∷ v ∷ w ∷ []) ⌝ }
+{
+    upto(3, u, v, w)
 }
 
 // Whether bit n of a word is set; a bit past the word is not.

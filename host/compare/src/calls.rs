@@ -72,23 +72,23 @@ fn asked(r: &Request, tail: usize) -> Result<Answer, String> {
     match r.entry {
         MOVE => {
             let mut w = run(2);
-            let answer = vaimalofo::mov(w.run(), at(d), b as u32, a);
+            let answer = vaimalofo::mov(w.run(), at(d), a, b as u32);
             wrote(answer, &mut w)
         }
         PATCHABLE_MOVE => {
             let mut w = run(3);
-            let answer = vaimalofo::patchable_mov(w.run(), at(e), a as u32, c as u32, b);
+            let answer = vaimalofo::patchable_mov(w.run(), at(e), a, b as u32, c as u32);
             wrote(answer, &mut w)
         }
         ENCODE_LOGICAL => {
-            let fields = vaimalofo::logical_fields(b as u32, a);
+            let fields = vaimalofo::logical_fields(a, b as u32);
             Ok(numbers(fields.map(|f| vec![f.n.into(), f.s.into(), f.r.into()])))
         }
         LOGICAL_WORD => {
             let mut w = run(5);
             let instruction =
-                Logical { operation: a as u32, width: b as u32, rn: d as u32, rd: e as u32 };
-            let answer = vaimalofo::logical_word(w.run(), at(g), instruction, c);
+                Logical { operation: a as u32, width: c as u32, rn: d as u32, rd: e as u32 };
+            let answer = vaimalofo::logical_word(w.run(), at(g), instruction, b);
             wrote(answer, &mut w)
         }
         DISP_IMM => {

@@ -71,9 +71,9 @@ fn moved(random: &mut Random, i: u64) -> String {
     let (value, rd) = (values::mixed(random, i / 4), random.below(31) as u32);
     let mut run = [0; 16];
     let (left, end) = match i % 8 {
-        3 => (value, vaimalofo::patchable_mov(&mut run, WordPos(0), 64, rd, value)),
-        7 => (value & 0xFFFF_FFFF, vaimalofo::patchable_mov(&mut run, WordPos(0), 32, rd, value)),
-        _ => (value, vaimalofo::mov(&mut run, WordPos(0), rd, value)),
+        3 => (value, vaimalofo::patchable_mov(&mut run, WordPos(0), value, 64, rd)),
+        7 => (value & 0xFFFF_FFFF, vaimalofo::patchable_mov(&mut run, WordPos(0), value, 32, rd)),
+        _ => (value, vaimalofo::mov(&mut run, WordPos(0), value, rd)),
     };
     let mut line = format!("{left:x} {rd}");
     let WordPos(count) = end.expect("the register is below 31 and there is room");

@@ -57,7 +57,7 @@ pub fn fields_32(slice: Slice) -> Part {
 }
 
 fn fields_of(value: u64, tally: &mut Tally) {
-    let entry = vaimalofo::logical_fields(32, value).map(|Fields { n, s, r }| [n, s, r]);
+    let entry = vaimalofo::logical_fields(value, 32).map(|Fields { n, s, r }| [n, s, r]);
     let document = logical::encode_logical_imm(value, 32);
     let original = rust::encode_logical_imm(value, 32);
     let agree = match (entry, document) {
@@ -91,7 +91,7 @@ fn move_of(value: u64, tally: &mut Tally) {
     let mut expected = RUN;
     put(&mut expected, position, &document);
     let mut run = RUN;
-    let answer = vaimalofo::mov(&mut run, WordPos(position), rd, value);
+    let answer = vaimalofo::mov(&mut run, WordPos(position), value, rd);
     if answer != Ok(WordPos(position + document.len())) || run != expected {
         return tally.fails(|| {
             format!("move of {value:x} to {rd}: {answer:?} {run:x?}, document 01 {document:x?}")
@@ -236,11 +236,11 @@ fn mixed_item(item: u64, tally: &mut Tally) {
     compare(&Request::new(ENCODE_LOGICAL, &[value, 64]), tail, tally);
     compare(&Request::new(ENCODE_LOGICAL, &[value, 32]), tail, tally);
     compare(
-        &Request::new(LOGICAL_WORD, &[operation, width, value, rn, rd, 8, position]),
+        &Request::new(LOGICAL_WORD, &[operation, value, width, rn, rd, 8, position]),
         tail,
         tally,
     );
-    compare(&Request::new(PATCHABLE_MOVE, &[width, value, rd, 8, position]), tail, tally);
+    compare(&Request::new(PATCHABLE_MOVE, &[value, width, rd, 8, position]), tail, tally);
 }
 
 // ---- damaged calls
@@ -271,9 +271,9 @@ fn damaged_item(item: u64, tally: &mut Tally) {
     let base = base(format as usize % 6, r);
     let request = match item % 7 {
         0 => Request::new(MOVE, &[value, rd, length, position]),
-        1 => Request::new(PATCHABLE_MOVE, &[width, value, rd, length, position]),
+        1 => Request::new(PATCHABLE_MOVE, &[value, width, rd, length, position]),
         2 => Request::new(ENCODE_LOGICAL, &[value, width]),
-        3 => Request::new(LOGICAL_WORD, &[operation, width, value, rn, rd, length, position]),
+        3 => Request::new(LOGICAL_WORD, &[operation, value, width, rn, rd, length, position]),
         4 => Request::new(DISP_IMM, &[format, base, near(value, r), length, position]),
         5 => Request::new(
             DISP_TARGET,

@@ -52,7 +52,7 @@ const SIDES: [(&str, Moves, Fields); 3] = [
 fn entry_moves(values: &[u64], run: &mut [u8]) -> usize {
     let mut at = WordPos(0);
     for (i, value) in values.iter().enumerate() {
-        at = vaimalofo::mov(run, at, register(i), *value).expect("there is room");
+        at = vaimalofo::mov(run, at, *value, register(i)).expect("there is room");
     }
     at.0
 }
@@ -93,7 +93,7 @@ fn sum_fields(values: &[u64], fields_of: impl Fn(u64) -> Option<[u32; 3]>) -> u6
 }
 
 fn entry_fields(values: &[u64]) -> u64 {
-    sum_fields(values, |value| vaimalofo::logical_fields(64, value).ok().map(|f| [f.n, f.s, f.r]))
+    sum_fields(values, |value| vaimalofo::logical_fields(value, 64).ok().map(|f| [f.n, f.s, f.r]))
 }
 
 fn original_fields(values: &[u64]) -> u64 {
