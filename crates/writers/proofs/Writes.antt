@@ -3,14 +3,14 @@ use mathlib.Core.Path.{_≡_, refl, ap, _∙_}
 use mathlib.Core.Bool.{Bool, true, false, cond}
 use mathlib.Core.List.{List, [], _∷_, _++_}
 use mathlib.Core.Logic.{_⊎_, inl, inr, ⊎-elim}
-use Prim.Native.Nat.{ℕ, suc, _+_, _*_, _/_, _≤_, _<_}
+use Prim.Native.Nat.{ℕ, suc, _+_, _*_, _/_, _%_, _≤_, _<_}
 use native.Mathlib.Omega.{arith}
 use borrow.Author.Tests.{le-leb, lt-leb, leb-true, leb-false}
 use lib.Dec.{leb}
 use lib.ListN.{length, set, take, drop, getD, length-append}
 use lib.Seq.{sets, sets-eq, slice, take-at, drop-at, length-take-le, getD-set-other}
 use Rattle.words.specs.Said.{Said, ok, no}
-use Rattle.writers.specs.Put.{putOf, putBytesOf, allBytes}
+use Rattle.writers.specs.Put.{putOf, putBytesOf, allBytes, wordsIn}
 
 -- the words fit, or there is no room for them
 module _ (ws : List ℕ) (at : ℕ) (vs : List ℕ) where
@@ -117,6 +117,13 @@ outside (v ∷ vs) l i k h =
 length-bytes : (vs : List ℕ) → length (allBytes vs) ≡ length vs * 4
 length-bytes [] = refl
 length-bytes (v ∷ vs) = omega (arith, length-bytes vs)
+
+-- bytes that spell words are taken as these words
+pub words-back : (vs : List ℕ) → wordsIn (allBytes vs) ≡ vs
+words-back [] = refl
+words-back (v ∷ vs) =
+    let e : v % 256 + v / 256 % 256 * 256 + v / 65536 % 256 * 65536 + v / 16777216 * 16777216 ≡ v = omega arith in
+    rw (e, words-back vs)
 
 -- from the old position to the new one stand the words that were asked for, and every other word is as before
 module _ (l : List ℕ) (at : ℕ) (vs : List ℕ) (p : ℕ) (l′ : List ℕ) where

@@ -20,6 +20,14 @@ abbrev pub allBytes : List ℕ → List ℕ
 allBytes [] = []
 allBytes (w ∷ ws) = bytesOf w ++ allBytes ws
 
+-- the words that bytes spell; a tail under four is none
+abbrev pub wordsIn : List ℕ → List ℕ
+wordsIn (a ∷ b ∷ c ∷ d ∷ bs) = (a + b * 256 + c * 65536 + d * 16777216) ∷ wordsIn bs
+wordsIn (a ∷ b ∷ c ∷ []) = []
+wordsIn (a ∷ b ∷ []) = []
+wordsIn (a ∷ []) = []
+wordsIn [] = []
+
 -- the same in a run of bytes, the position counting words; "a tail under four is no room"
 unfoldable pub putBytesOf : List ℕ → ℕ → Said (List ℕ) → Said ℕ × List ℕ
 putBytesOf bs at (ok vs) = cond (leb (at + length vs) (length bs / 4)) (ok (at + length vs), sets bs (at * 4) (allBytes vs)) (no 8, bs)
