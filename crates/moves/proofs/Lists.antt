@@ -59,22 +59,22 @@ pub record Holds (ws : List ℕ) (n : ℕ) (l : List ℕ) : Type 0 where
 pub nothing : Holds [] 0 (replicate 5 0)
 nothing = record { stale = 0; end = refl; is = refl }
 
-rest-append : (rd : ℕ) (ps qs : List (ℕ × ℕ)) → rest rd (ps ++ qs) ≡ rest rd ps ++ rest rd qs
+rest-append : (rd : ℕ) (ps qs : List (ℕ × ℕ)) → rest (ps ++ qs) rd ≡ rest ps rd ++ rest qs rd
 rest-append rd [] qs = refl
 rest-append rd ((k, h) ∷ ps) qs = rw (rest-append rd ps qs)
 
 -- a store at the end n: the end moves on, unless the halfword is f, and then the word will be stored over
-pub more : (rd f k j : ℕ) (ps : List (ℕ × ℕ)) {l : List ℕ} {n m w h : ℕ} → Holds (rest rd ps) n l → n < 4
-    → m ≡ n + cond (eqb h f) 0 1 → h ≡ j → w ≡ word movk k h rd → Holds (rest rd (ps ++ part f k j)) m (set l n w)
+pub more : (rd f k j : ℕ) (ps : List (ℕ × ℕ)) {l : List ℕ} {n m w h : ℕ} → Holds (rest ps rd) n l → n < 4
+    → m ≡ n + cond (eqb h f) 0 1 → h ≡ j → w ≡ word movk k h rd → Holds (rest (ps ++ part f k j) rd) m (set l n w)
 more rd f k j ps {l} {n} {m} {w} {h} t s e p q = rw (rest-append rd ps (part f k j), e, p) (go (eqb j f))
   where
     ws : List ℕ
-    ws = rest rd ps
+    ws = rest ps rd
 
     stored : set l n w ≡ ws ++ w ∷ replicate (4 - n) 0
     stored = ap (λ (x : List ℕ). set x n w) (t .is) ∙ set-at ws (t .stale) (replicate (4 - n) 0) w n (t .end)
 
-    go : (b : Bool) → Holds (ws ++ rest rd (cond b [] ((k, j) ∷ []))) (n + cond b 0 1) (set l n w)
+    go : (b : Bool) → Holds (ws ++ rest (cond b [] ((k, j) ∷ [])) rd) (n + cond b 0 1) (set l n w)
     go true = rw (add-zero, append-nil) (record { stale = w; end = t .end; is = stored })
     go false =
         let room : 4 - n ≡ suc (4 - (n + 1)) = omega arith in
@@ -128,19 +128,19 @@ module _ (rd : ℕ) (rd-is : rd < 31) where
       let r : w % 2 ^ 5 ≡ rd = omega arith in
       rw (p, q, r)
 
-  first-movz : (ps : List (ℕ × ℕ)) → Halves ps → turned (firstBase 0 + rd) (firstWord 0) (rest rd ps) ≡ byMovz rd ps
+  first-movz : (ps : List (ℕ × ℕ)) → Halves ps → turned (firstBase 0 + rd) (firstWord 0) (rest ps rd) ≡ byMovz ps rd
   unfolding turned
   first-movz [] hs = refl
-  first-movz ((k, h) ∷ ps) hs = ap (λ (w : ℕ). w ∷ rest rd ps) (first-is 0 k h (hs .0) (hs .1) ∙ ap (λ (x : ℕ). word movz k x rd) (xor-zero-r h))
+  first-movz ((k, h) ∷ ps) hs = ap (λ (w : ℕ). w ∷ rest ps rd) (first-is 0 k h (hs .0) (hs .1) ∙ ap (λ (x : ℕ). word movz k x rd) (xor-zero-r h))
 
-  first-movn : (ps : List (ℕ × ℕ)) → Halves ps → turned (firstBase 0xFFFF + rd) (firstWord 0xFFFF) (rest rd ps) ≡ byMovn rd ps
+  first-movn : (ps : List (ℕ × ℕ)) → Halves ps → turned (firstBase 0xFFFF + rd) (firstWord 0xFFFF) (rest ps rd) ≡ byMovn ps rd
   unfolding turned
   first-movn [] hs = refl
-  first-movn ((k, h) ∷ ps) hs = ap (λ (w : ℕ). w ∷ rest rd ps) (first-is 0xFFFF k h (hs .0) (hs .1) ∙ ap (λ (x : ℕ). word movn k x rd) (flip h (hs .1)))
+  first-movn ((k, h) ∷ ps) hs = ap (λ (w : ℕ). w ∷ rest ps rd) (first-is 0xFFFF k h (hs .0) (hs .1) ∙ ap (λ (x : ℕ). word movn k x rd) (flip h (hs .1)))
 
   -- what the code does to the list is what is asked
-  pub long-by : (v : ℕ) {f z w : ℕ} {q : Words} (t : Bool) → f ≡ cond t 0 0xFFFF → z ≡ firstBase f → w ≡ firstWord f (q .a) → q ≡ wordsOf (rest rd (others f v))
-      → lead (z + rd) w q ≡ wordsOf (cond t (byMovz rd (others 0 v)) (byMovn rd (others 0xFFFF v)))
-  long-by v true p z w e = rw (z, w, e, p) (led _ (firstWord 0) (rest rd (others 0 v)) ∙ ap wordsOf (first-movz (others 0 v) (others-halves 0 v)))
+  pub long-by : (v : ℕ) {f z w : ℕ} {q : Words} (t : Bool) → f ≡ cond t 0 0xFFFF → z ≡ firstBase f → w ≡ firstWord f (q .a) → q ≡ wordsOf (rest (others f v) rd)
+      → lead (z + rd) w q ≡ wordsOf (cond t (byMovz (others 0 v) rd) (byMovn (others 0xFFFF v) rd))
+  long-by v true p z w e = rw (z, w, e, p) (led _ (firstWord 0) (rest (others 0 v) rd) ∙ ap wordsOf (first-movz (others 0 v) (others-halves 0 v)))
   long-by v false p z w e =
-      rw (z, w, e, p) (led _ (firstWord 0xFFFF) (rest rd (others 0xFFFF v)) ∙ ap wordsOf (first-movn (others 0xFFFF v) (others-halves 0xFFFF v)))
+      rw (z, w, e, p) (led _ (firstWord 0xFFFF) (rest (others 0xFFFF v) rd) ∙ ap wordsOf (first-movn (others 0xFFFF v) (others-halves 0xFFFF v)))

@@ -1,11 +1,11 @@
 // Module 5: move sequences. Arm's meaning of the words is in the crate arm, the words that are asked for in specs/Moves.antt.
+use words::Opc;
 use words::Refusal;
 use words::WordPos;
 use words::Worded;
 use words::Words;
 use words::Written;
 ghost use mathlib.Core.Path.{_≡_};
-ghost use mathlib.Core.List.{[], _∷_};
 ghost use Prim.Native.Nat.{_/_, _%_, _^_, _<_};
 ghost use Rattle.words.specs.Answer.{said, made};
 ghost use Rattle.words.specs.Listed.{wordsOf, packed};
@@ -13,23 +13,23 @@ ghost use Rattle.writers.specs.Put.{putOf};
 ghost use Rattle.moves.specs.Moves.{word, others, rest, long, short, movSaid};
 ghost use Rattle.moves.specs.Steps.{Passed, Filled, Based, firstWord, lead};
 
-const MOVZ: u32 = 0xD2800000;
+const MOVZ: Opc = Opc(0xD2800000);
 
-const MOVN: u32 = 0x92800000;
+const MOVN: Opc = Opc(0x92800000);
 
-const MOVK: u32 = 0xF2800000;
+const MOVK: Opc = Opc(0xF2800000);
 
-const MOVN32: u32 = 0x12800000;
+const MOVN32: Opc = Opc(0x12800000);
 
 // 31 is the zero register.
 const LAST_REGISTER: u32 = 30;
 
 // A base with halfword number, halfword and register.
-fn word(base: u32, k: u32, h: u32, rd: u32) -> u32
-    requires { ⌜ (base < 0xF3000000) × (k < 4) × (h < 2 ^ 16) × (rd < 31) ⌝ }
-    ensures { λ r. ⌜ r ≡ word base k h rd ⌝ }
+fn word(base: Opc, k: u32, h: u32, rd: u32) -> Opc
+    requires { ⌜ (base .0 < 0xF3000000) × (k < 4) × (h < 2 ^ 16) × (rd < 31) ⌝ }
+    ensures { λ r. ⌜ r .0 ≡ word (base .0) k h rd ⌝ }
 {
-    base + k * 2097152 + h * 32 + rd
+    Opc(base.0 + k * 2097152 + h * 32 + rd)
 }
 
 // The place after a halfword: one further, unless the halfword is f.
@@ -44,17 +44,17 @@ fn past(n: usize, f: u32, h: u32) -> usize
 // its halfword is f.
 fn rest(f: u32, imm: u64, rd: u32) -> Words
     requires { ⌜ rd < 31 ⌝ }
-    ensures { λ r. ⌜ r ≡ wordsOf (rest rd (others f imm)) ⌝ }
+    ensures { λ r. ⌜ r ≡ wordsOf (rest (others f imm) rd) ⌝ }
 {
     let h = halfwords::cut(imm);
     let mut w = [0u32; 5];
-    w[0] = word(MOVK, 0, h.0, rd);
+    w[0] = word(MOVK, 0, h.0, rd).0;
     let i = past(0, f, h.0);
-    w[i] = word(MOVK, 1, h.1, rd);
+    w[i] = word(MOVK, 1, h.1, rd).0;
     let j = past(i, f, h.1);
-    w[j] = word(MOVK, 2, h.2, rd);
+    w[j] = word(MOVK, 2, h.2, rd).0;
     let k = past(j, f, h.2);
-    w[k] = word(MOVK, 3, h.3, rd);
+    w[k] = word(MOVK, 3, h.3, rd).0;
     let count = past(k, f, h.3);
     w[count] = 0;
     Words {
@@ -66,40 +66,16 @@ fn rest(f: u32, imm: u64, rd: u32) -> Words
     }
 }
 
-fn one(w: u32) -> Words
-    ensures { λ r. ⌜ r ≡ wordsOf (w ∷ []) ⌝ }
-{
-    Words {
-        count: 1,
-        a: w,
-        b: 0,
-        c: 0,
-        d: 0,
-    }
-}
-
-fn two(v: u32, w: u32) -> Words
-    ensures { λ r. ⌜ r ≡ wordsOf (v ∷ w ∷ []) ⌝ }
-{
-    Words {
-        count: 2,
-        a: v,
-        b: w,
-        c: 0,
-        d: 0,
-    }
-}
-
 // The words with the first one replaced by w; z alone where there are none.
-fn lead(z: u32, w: u32, q: Words) -> Words
-    ensures { λ r. ⌜ r ≡ lead z w q ⌝ }
+fn lead(z: Opc, w: Opc, q: Words) -> Words
+    ensures { λ r. ⌜ r ≡ lead (z .0) (w .0) q ⌝ }
 {
     if q.count == 0 {
-        return one(z);
+        return words::one(z.0);
     }
     Words {
         count: q.count,
-        a: w,
+        a: w.0,
         b: q.b,
         c: q.c,
         d: q.d,
@@ -118,55 +94,55 @@ fn filler(imm: u64) -> u32
 }
 
 // The base of the first word.
-fn base(f: u32) -> u32
-    ensures { λ r. ⌜ Based f r ⌝ }
+fn base(f: u32) -> Opc
+    ensures { λ r. ⌜ Based f (r .0) ⌝ }
 {
     if f == 0 { MOVZ } else { MOVN }
 }
 
 // A MOVK made a first word: a MOVZ of the same halfword, or a MOVN of it inverted.
-fn first(f: u32, w: u32) -> u32
+fn first(f: u32, w: Opc) -> Opc
     requires { ⌜ f < 2 ^ 16 ⌝ }
-    ensures { λ r. ⌜ r ≡ firstWord f w ⌝ }
+    ensures { λ r. ⌜ r .0 ≡ firstWord f (w .0) ⌝ }
 {
-    base(f) + w / 2097152 % 4 * 2097152 + ((w / 32 % 65536) ^ f) * 32 + w % 32
+    Opc(base(f).0 + w.0 / 2097152 % 4 * 2097152 + ((w.0 / 32 % 65536) ^ f) * 32 + w.0 % 32)
 }
 
 // The words of a value above FFFFFFFF. All ones leaves no halfword for the rest and is one MOVN.
 fn long(imm: u64, rd: u32) -> Words
     requires { ⌜ rd < 31 ⌝ }
-    ensures { λ r. ⌜ r ≡ wordsOf (long rd imm) ⌝ }
+    ensures { λ r. ⌜ r ≡ wordsOf (long imm rd) ⌝ }
 {
     let f = filler(imm);
     let q = rest(f, imm, rd);
-    lead(base(f) + rd, first(f, q.a), q)
+    lead(Opc(base(f).0 + rd), first(f, Opc(q.a)), q)
 }
 
 // The words of a value up to FFFFFFFF.
 fn encode_mov_sequence32(imm: u32, rd: u32) -> Words
     requires { ⌜ rd < 31 ⌝ }
-    ensures { λ r. ⌜ r ≡ wordsOf (short rd (imm / 2 ^ 16) (imm % 2 ^ 16)) ⌝ }
+    ensures { λ r. ⌜ r ≡ wordsOf (short (imm / 2 ^ 16) (imm % 2 ^ 16) rd) ⌝ }
 {
     let hi = imm / 65536;
     let lo = imm % 65536;
     if hi == 0 {
-        return one(word(MOVZ, 0, lo, rd));
+        return words::one(word(MOVZ, 0, lo, rd).0);
     }
     if hi == 0xFFFF {
-        return one(word(MOVN32, 0, 0xFFFF - lo, rd));
+        return words::one(word(MOVN32, 0, 0xFFFF - lo, rd).0);
     }
     if lo == 0 {
-        return one(word(MOVZ, 1, hi, rd));
+        return words::one(word(MOVZ, 1, hi, rd).0);
     }
     if lo == 0xFFFF {
-        return one(word(MOVN32, 1, 0xFFFF - hi, rd));
+        return words::one(word(MOVN32, 1, 0xFFFF - hi, rd).0);
     }
-    two(word(MOVZ, 0, lo, rd), word(MOVK, 1, hi, rd))
+    words::two(word(MOVZ, 0, lo, rd).0, word(MOVK, 1, hi, rd).0)
 }
 
 // The words of a move of a value to a register, 1 to 4, or refusal 2.
 pub fn mov_words(imm: u64, rd: u32) -> Worded
-    ensures { λ r. ⌜ made r ≡ packed (movSaid rd imm) ⌝ }
+    ensures { λ r. ⌜ made r ≡ packed (movSaid imm rd) ⌝ }
 {
     if rd > LAST_REGISTER {
         return Worded::Not(Refusal::Register);
@@ -179,7 +155,7 @@ pub fn mov_words(imm: u64, rd: u32) -> Worded
 
 // A move, written: the words from the position on, or refusal 2 or 8 with the run unchanged.
 pub fn encode_mov_sequence64(words: &mut [u32], at: WordPos, imm: u64, rd: u32) -> Written
-    ensures { λ r. ⌜ (said r, now (words .exit)) ≡ putOf (now (words .entry)) (at .0) (movSaid rd imm) ⌝ }
+    ensures { λ r. ⌜ (said r, now (words .exit)) ≡ putOf (now (words .entry)) (at .0) (movSaid imm rd) ⌝ }
 {
     writers::put(words, at, mov_words(imm, rd))
 }

@@ -19,20 +19,20 @@ use Rattle.patchable_moves.proofs.Lengths.{patch-by, patch64-length, pa
 
 -- ---- the asked value
 
-module _ (size v rd : ℕ) (v-is : v < 2 ^ 64) (R : Regs) where
+module _ (v size rd : ℕ) (v-is : v < 2 ^ 64) (R : Regs) where
   -- in the run after a call that was not turned down
-  pub patched : (ws : List ℕ) (at p : ℕ) (ws′ : List ℕ) → Put ws at p ws′ (patchSaid size v rd) → Leaves at p ws′ R rd (v % 2 ^ size)
+  pub patched : (ws : List ℕ) (at p : ℕ) (ws′ : List ℕ) → Put ws at p ws′ (patchSaid v size rd) → Leaves at p ws′ R rd (v % 2 ^ size)
   patched ws at p ws′ =
-      patch-by size v rd (λ x. Put ws at p ws′ x → Leaves at p ws′ R rd (v % 2 ^ size))
+      patch-by v size rd (λ x. Put ws at p ws′ x → Leaves at p ws′ R rd (v % 2 ^ size))
       (λ e. absurd (not-refused ws at 1 p ws′ e))
       (λ e. absurd (not-refused ws at 2 p ws′ e))
       (λ s l e. rw (written ws at (patch64 v rd) p ws′ e, s, mod-eq-of-lt v-is) (patch64-run rd l v v-is R))
       (λ s l e. rw (written ws at (patch32 v rd) p ws′ e, s) (patch32-run rd l v R))
 
   -- by value
-  pub patch-made : (f : Words) → ok f ≡ packed (patchSaid size v rd) → run (listOf f) R ≡ some (write R rd (v % 2 ^ size))
+  pub patch-made : (f : Words) → ok f ≡ packed (patchSaid v size rd) → run (listOf f) R ≡ some (write R rd (v % 2 ^ size))
   patch-made f =
-      patch-by size v rd (λ x. ok f ≡ packed x → run (listOf f) R ≡ some (write R rd (v % 2 ^ size)))
+      patch-by v size rd (λ x. ok f ≡ packed x → run (listOf f) R ≡ some (write R rd (v % 2 ^ size)))
       (λ e. absurd (not-both e))
       (λ e. absurd (not-both e))
       (λ s l e. rw (listed-as f (patch64 v rd) (omega (arith, patch64-length v rd)) e, s, mod-eq-of-lt v-is) (patch64-run rd l v v-is R))
@@ -40,20 +40,20 @@ module _ (size v rd : ℕ) (v-is : v < 2 ^ 64) (R : Regs) where
 
 -- ---- how many words: always four at 64 and two at 32
 
-module _ (size v rd : ℕ) where
+module _ (v size rd : ℕ) where
   -- by value
-  pub patch-count : (f : Words) → ok f ≡ packed (patchSaid size v rd) → f .count ≡ size / 16
+  pub patch-count : (f : Words) → ok f ≡ packed (patchSaid v size rd) → f .count ≡ size / 16
   patch-count f =
-      patch-by size v rd (λ x. ok f ≡ packed x → f .count ≡ size / 16)
+      patch-by v size rd (λ x. ok f ≡ packed x → f .count ≡ size / 16)
       (λ e. absurd (not-both e))
       (λ e. absurd (not-both e))
       (λ s l e. counted f (patch64 v rd) e ∙ omega (arith, patch64-length v rd))
       (λ s l e. counted f (patch32 v rd) e ∙ omega (arith, patch32-length v rd))
 
   -- through the writer: the position moves on by as many
-  pub patched-past : (ws : List ℕ) (at p : ℕ) (ws′ : List ℕ) → Put ws at p ws′ (patchSaid size v rd) → p ≡ at + size / 16
+  pub patched-past : (ws : List ℕ) (at p : ℕ) (ws′ : List ℕ) → Put ws at p ws′ (patchSaid v size rd) → p ≡ at + size / 16
   patched-past ws at p ws′ =
-      patch-by size v rd (λ x. Put ws at p ws′ x → p ≡ at + size / 16)
+      patch-by v size rd (λ x. Put ws at p ws′ x → p ≡ at + size / 16)
       (λ e. absurd (not-refused ws at 1 p ws′ e))
       (λ e. absurd (not-refused ws at 2 p ws′ e))
       (λ s l e. omega (arith, put-done ws at ws′ (patch64 v rd) p e .past, patch64-length v rd))

@@ -1,19 +1,12 @@
 -- Each public entry's contract allows one answer, and one run after it. Assumes nothing.
-use mathlib.Core.Path.{_≡_}
-use mathlib.Core.List.{List}
-use Prim.Native.Nat.{ℕ}
-use Rattle.words.specs.Answer.{said, made}
-use Rattle.words.specs.Listed.{packed}
-use Rattle.writers.specs.Put.{putOf}
-use Rattle.words.specs.declared.Worded.{Worded}
-use Rattle.words.specs.declared.Written.{Written}
+use denote.Ref.{now}
 use Rattle.words.proofs.Answers.{made-all}
-use Rattle.words.proofs.Determined.{one-answer, one-write}
-use Rattle.patchable_moves.specs.Patchable.{patchSaid}
+use Rattle.words.proofs.Contracts.{OneAnswer, OneWrite, one-answer, one-write}
+use Rattle.patchable_moves.proofs.patchable_mov_words.Reads as patchable-mov-words
+use Rattle.patchable_moves.proofs.encode_patchable_mov_imm.Reads as encode-patchable-mov-imm
 
-pub patchable-mov-words-determined : (size v rd : ℕ) (r s : Worded) → made r ≡ packed (patchSaid size v rd) → made s ≡ packed (patchSaid size v rd) → r ≡ s
-patchable-mov-words-determined size v rd r s p q = made-all r s (one-answer p q)
+pub patchable-mov-words-determined : OneAnswer patchable-mov-words.Post
+patchable-mov-words-determined k a r s x y p q = made-all r s (one-answer p q)
 
-pub encode-patchable-mov-imm-determined : (ws : List ℕ) (at size v rd : ℕ) (r s : Written) (l k : List ℕ)
-    → (said r, l) ≡ putOf ws at (patchSaid size v rd) → (said s, k) ≡ putOf ws at (patchSaid size v rd) → (r ≡ s) × (l ≡ k)
-encode-patchable-mov-imm-determined ws at size v rd r s l k p q = one-write (putOf ws at (patchSaid size v rd)) r s l k p q
+pub encode-patchable-mov-imm-determined : OneWrite encode-patchable-mov-imm.Post (λ k x. now (x .0))
+encode-patchable-mov-imm-determined k a r s x y p q = one-write r s p q

@@ -11,10 +11,10 @@ use Rattle.words.specs.Said.{Said, ok, no}
 use Rattle.words.proofs.Answers.{Short}
 use Rattle.patchable_moves.specs.Patchable.{patch64, patch32, patchWords, patchSaid}
 
-pub patch-by : (size v rd : ℕ) (P : Said (List ℕ) → Type 0) → P (no 1) → P (no 2)
-    → (size ≡ 64 → rd < 31 → P (ok (patch64 v rd))) → (size ≡ 32 → rd < 31 → P (ok (patch32 v rd))) → P (patchSaid size v rd)
+pub patch-by : (v size rd : ℕ) (P : Said (List ℕ) → Type 0) → P (no 1) → P (no 2)
+    → (size ≡ 64 → rd < 31 → P (ok (patch64 v rd))) → (size ≡ 32 → rd < 31 → P (ok (patch32 v rd))) → P (patchSaid v size rd)
 unfolding patchSaid patchWords
-patch-by size v rd P other high at-64 at-32 = go (eqb size 64) refl (eqb size 32) refl (ltb 30 rd) refl
+patch-by v size rd P other high at-64 at-32 = go (eqb size 64) refl (eqb size 32) refl (ltb 30 rd) refl
   where
     go : (a : Bool) → eqb size 64 ≡ a → (b : Bool) → eqb size 32 ≡ b → (c : Bool) → ltb 30 rd ≡ c
         → P (cond (not (a || b)) (no 1) (cond c (no 2) (ok (cond a (patch64 v rd) (patch32 v rd)))))
@@ -33,5 +33,5 @@ unfolding patch32
 patch32-length v rd = refl
 
 -- words that are said fit a value of four
-pub patch-short : (size v rd : ℕ) → Short (patchSaid size v rd)
-patch-short size v rd = patch-by size v rd Short tt tt (λ e l. omega (arith, patch64-length v rd)) (λ e l. omega (arith, patch32-length v rd))
+pub patch-short : (v size rd : ℕ) → Short (patchSaid v size rd)
+patch-short v size rd = patch-by v size rd Short tt tt (λ e l. omega (arith, patch64-length v rd)) (λ e l. omega (arith, patch32-length v rd))

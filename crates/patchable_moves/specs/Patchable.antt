@@ -22,11 +22,11 @@ unfoldable pub patch32 : ℕ → ℕ → List ℕ
 patch32 v rd = word movz32 0 (half v 0) rd ∷ word movk32 1 (half v 1) rd ∷ []
 
 unfoldable pub patchWords : ℕ → ℕ → ℕ → List ℕ
-patchWords size v rd = cond (eqb size 64) (patch64 v rd) (patch32 v rd)
+patchWords v size rd = cond (eqb size 64) (patch64 v rd) (patch32 v rd)
 
 abbrev pub isSize : ℕ → Bool
 isSize size = eqb size 64 || eqb size 32
 
 -- "Order 1, 2, 8"
 unfoldable pub patchSaid : ℕ → ℕ → ℕ → Said (List ℕ)
-patchSaid size v rd = cond (not (isSize size)) (no 1) (cond (ltb 30 rd) (no 2) (ok (patchWords size v rd)))
+patchSaid v size rd = cond (not (isSize size)) (no 1) (cond (ltb 30 rd) (no 2) (ok (patchWords v size rd)))

@@ -12,11 +12,12 @@ use Rattle.moves.proofs.long.Tie as tie
 returns : tie.Need-returns
 unfolding long filler
 returns c =
-    let q = c .before .before .before in
+    let b = c .before .before .before in
+    let q = b .before in
     let s = q .before .before in
     let v = s .args .imm in
     c .lead .ensures
-    ∙ long-by (s .args .rd) (s .pre) v (leb (count 0xFFFF v) (count 0 v)) (q .before .filler .ensures .is) (c .before .before .base .ensures .is)
+    ∙ long-by (s .args .rd) (s .pre) v (leb (count 0xFFFF v) (count 0 v)) (q .before .filler .ensures .is) (b .base .ensures .is)
     (c .before .first .ensures) (q .rest .ensures)
 
 pub long-spec : {M : Type 1} → statement M

@@ -27,7 +27,7 @@ returns c =
     let e2 = more rd f 1 (half v 1) p0 e1 (omega arith) (c2 .past2 .ensures .is) (h .at-1) (c2 .before .word2 .ensures) in
     let e3 = more rd f 2 (half v 2) p1 e2 (omega arith) (c3 .past3 .ensures .is) (h .at-2) (c3 .before .word3 .ensures) in
     let e4 = more rd f 3 (half v 3) p2 e3 (omega arith) (c .past4 .ensures .is) (h .at-3) (c .before .word4 .ensures) in
-    held _ _ _ e4 ∙ ap (λ (ps : List (ℕ × ℕ)). wordsOf (rest rd ps)) (others-parts f v)
+    held _ _ _ e4 ∙ ap (λ (ps : List (ℕ × ℕ)). wordsOf (rest ps rd)) (others-parts f v)
 
 pub rest-spec : {M : Type 1} → statement M
 rest-spec =
