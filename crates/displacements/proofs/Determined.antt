@@ -1,39 +1,40 @@
 -- Each public entry's contract allows one answer, and one run after it. Assumes nothing.
-use mathlib.Core.Path.{_≡_, sym, ap}
-use mathlib.Core.List.{List}
-use Prim.Native.Nat.{ℕ}
+use mathlib.Core.Path.{_≡_, refl, ap}
+use denote.Ref.{now}
 use lib.IntN.{ℤ}
-use Rattle.words.specs.Answer.{said, made}
-use Rattle.words.specs.Listed.{packed}
-use Rattle.writers.specs.Put.{putOf}
-use Rattle.words.specs.declared.Worded.{Worded}
-use Rattle.words.specs.declared.Written.{Written}
-use Rattle.words.proofs.Answers.{number-all, no-number, not-both, made-all}
-use Rattle.words.proofs.Determined.{one-answer, one-write}
+use Rattle.words.proofs.Answers.{all-said, answered, refusal-back, made-all}
+use Rattle.words.proofs.Contracts.{OneAnswer, OneWrite, one-answer, one-write}
 use Rattle.displacements.specs.declared.DistanceAnswer.{DistanceAnswer}
 use Rattle.displacements.specs.declared.DistanceAnswer.the-variants.{Distance, NoDistance}
-use Rattle.displacements.specs.Answer.{dispSaid, targetSaid, readSaid, distanceSaid}
+use Rattle.displacements.specs.Answer.{distanceSaid}
+use Rattle.displacements.proofs.disp_word.Reads as disp-word
+use Rattle.displacements.proofs.disp_target_word.Reads as disp-target-word
+use Rattle.displacements.proofs.emit_disp_imm.Reads as emit-disp-imm
+use Rattle.displacements.proofs.emit_disp_target.Reads as emit-disp-target
+use Rattle.displacements.proofs.read_disp.Reads as read-disp
+
+pub disp-word-determined : OneAnswer disp-word.Post
+disp-word-determined k a r s x y p q = made-all r s (one-answer p q)
+
+pub disp-target-word-determined : OneAnswer disp-target-word.Post
+disp-target-word-determined k a r s x y p q = made-all r s (one-answer p q)
+
+pub emit-disp-imm-determined : OneWrite emit-disp-imm.Post (λ k x. now (x .0))
+emit-disp-imm-determined k a r s x y p q = one-write r s p q
+
+pub emit-disp-target-determined : OneWrite emit-disp-target.Post (λ k x. now (x .0))
+emit-disp-target-determined k a r s x y p q = one-write r s p q
 
 -- what the reader's answer says is all of it
+abbrev distanceOf : ℤ → DistanceAnswer
+distanceOf d = Distance (record { 0 = d })
+
+distance-back : (r : DistanceAnswer) → answered distanceOf NoDistance (distanceSaid r) ≡ r
+distance-back (Distance d) = refl
+distance-back (NoDistance r) = ap NoDistance (refusal-back r)
+
 pub distance-all : (r s : DistanceAnswer) → distanceSaid r ≡ distanceSaid s → r ≡ s
-distance-all (Distance d) (Distance g) e = let same : d .0 ≡ g .0 = cc in ap (λ (z : ℤ). Distance (record { 0 = z })) same
-distance-all (Distance d) (NoDistance s) e = absurd (not-both e)
-distance-all (NoDistance r) (Distance g) e = absurd (not-both (sym e))
-distance-all (NoDistance r) (NoDistance s) e = ap NoDistance (number-all r s (no-number e))
+distance-all = all-said distanceSaid (answered distanceOf NoDistance) distance-back
 
-module _ (n b : ℕ) (r s : Worded) where
-  pub disp-word-determined : (d : ℤ) → made r ≡ packed (dispSaid n b d) → made s ≡ packed (dispSaid n b d) → r ≡ s
-  disp-word-determined d p q = made-all r s (one-answer p q)
-
-  pub disp-target-word-determined : (t a : ℕ) → made r ≡ packed (targetSaid n b t a) → made s ≡ packed (targetSaid n b t a) → r ≡ s
-  disp-target-word-determined t a p q = made-all r s (one-answer p q)
-
-module _ (ws : List ℕ) (at n b : ℕ) (r s : Written) (l m : List ℕ) where
-  pub emit-disp-imm-determined : (d : ℤ) → (said r, l) ≡ putOf ws at (dispSaid n b d) → (said s, m) ≡ putOf ws at (dispSaid n b d) → (r ≡ s) × (l ≡ m)
-  emit-disp-imm-determined d p q = one-write (putOf ws at (dispSaid n b d)) r s l m p q
-
-  pub emit-disp-target-determined : (t a : ℕ) → (said r, l) ≡ putOf ws at (targetSaid n b t a) → (said s, m) ≡ putOf ws at (targetSaid n b t a) → (r ≡ s) × (l ≡ m)
-  emit-disp-target-determined t a p q = one-write (putOf ws at (targetSaid n b t a)) r s l m p q
-
-pub read-disp-determined : (w n : ℕ) (r s : DistanceAnswer) → distanceSaid r ≡ readSaid w n → distanceSaid s ≡ readSaid w n → r ≡ s
-read-disp-determined w n r s p q = distance-all r s (one-answer p q)
+pub read-disp-determined : OneAnswer read-disp.Post
+read-disp-determined k a r s x y p q = distance-all r s (one-answer p q)

@@ -4,7 +4,6 @@ use words::Opc;
 use words::Refusal;
 use words::WordPos;
 use words::Worded;
-use words::Words;
 use words::Written;
 ghost use mathlib.Core.Path.{_≡_};
 ghost use Prim.Native.Nat.{_^_, _<_};
@@ -67,12 +66,13 @@ fn field_of(f: Form, w: Opc) -> u64
 }
 
 // The base, whose field is clear, with v in the field.
-fn put_field(f: Form, base: Opc, v: u64) -> u32
+fn put_field(f: Form, base: Opc, v: u64) -> Opc
     requires { ⌜ Sound f × (fieldIn f (base .0) ≡ 0) × (v < 2 ^ f .bits) ⌝ }
-    ensures { λ r. ⌜ r ≡ putIn f (base .0) v ⌝ }
+    ensures { λ r. ⌜ r .0 ≡ putIn f (base .0) v ⌝ }
 {
     let b = base.0 as u64;
-    (b + ((v >> f.low) << f.at) + (words::low_bits(v, f.low) << 29)) as u32
+    let w = (b + ((v >> f.low) << f.at) + (words::low_bits(v, f.low) << 29)) as u32;
+    Opc(w)
 }
 
 // The word of a base and a distance at a format: 6, 4, 5.
@@ -93,13 +93,7 @@ fn place(f: Form, base: Opc, distance: ByteDistance) -> Worded
         return Worded::Not(Refusal::Range);
     }
     let w = put_field(f, base, words::low_bits(x >> f.scale, f.bits));
-    Worded::Made(Words {
-        count: 1,
-        a: w,
-        b: 0,
-        c: 0,
-        d: 0,
-    })
+    Worded::Made(words::one(w.0))
 }
 
 // The word of a base and a distance, by value: 7, 6, 4, 5.

@@ -1,26 +1,23 @@
 -- Worked values of `pick_fp_opcode`. Assumes nothing.
 use mathlib.Core.Path.{_≡_, refl, ap, _∙_}
-use mathlib.Core.Bool.{Bool, true, false, cond, _&&_}
+use mathlib.Core.Bool.{true, false, cond}
 use mathlib.Core.List.{[], _∷_}
 use Prim.Native.Nat.{ℕ, zero, suc, _+_, _-_, _*_, _/_, _%_, _^_, _<_, max}
 use native.Mathlib.Omega.{arith}
 use lib.Arith.{lt-one}
 use lib.Bits.{bitOr, bitXor, differ, or-step, xor-step}
-use lib.Dec.{T, eqb, ltb}
+use lib.Dec.{eqb, ltb}
 use lib.ListN.{getD}
+use Rattle.arm.proofs.Worked.{Worked}
 use Rattle.words.specs.Bit.{bitOf}
 use Rattle.words.specs.Said.{ok, no}
 use Rattle.simd.specs.Kinds.{Vec16, Vec64, Vec128, none, H, D, within}
-use Rattle.words.proofs.Alike.{allAlike}
 use Rattle.fp_picks.specs.Pick.{rowAt, wordOf, scalarOf, vectorOf, pickOf}
 
 -- ---- what is refused
 
-abbrev samePick : ℕ × ℕ → ℕ × ℕ → Bool
-samePick p q = eqb (p .0) (q .0) && eqb (p .1) (q .1)
-
 pub refused :
-    T (allAlike samePick
+    Worked
     ((pickOf 8 0 0 0 0 0, no 7)
     ∷ (pickOf 5 8 0 0 0 0, no 7)
     ∷ (pickOf 1 0 0x1E204000 6 0 0, no 7)  -- the row before the kind
@@ -32,9 +29,9 @@ pub refused :
     ∷ (pickOf 7 1 0 0 0x0E20D400 4, no 3)
     ∷ (pickOf 7 7 0 0 0x0E20D400 4, no 3)
     ∷ (pickOf 5 3 0 0 0x0E20D400 4, no 3)
-    ∷ []))
+    ∷ [])
 unfolding pickOf scalarOf vectorOf wordOf
-refused = tt
+refused = refl
 
 -- ---- what is picked. Xor and or by binary digits compute on words
 

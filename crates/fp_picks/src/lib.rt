@@ -61,19 +61,19 @@ fn fp_row(row: u32) -> FpRow
 }
 
 // The row's word for the size, and the opcode word. The base is tested without bit 30.
-fn row_word(row: u32, size: u32, base: u32, word: u32) -> PickAnswer
+fn row_word(row: u32, size: u32, base: Opc, word: Opc) -> PickAnswer
     requires { ⌜ (row < 6) × (size < 3) ⌝ }
-    ensures { λ r. ⌜ pickSaid r ≡ wordOf row size base word ⌝ }
+    ensures { λ r. ⌜ pickSaid r ≡ wordOf row size (base .0) (word .0) ⌝ }
 {
     let r = fp_row(row);
     if !words::bit_test(r.sizes, size) {
         return PickAnswer::NoPick(Refusal::NoField);
     }
-    if base == 0 {
+    if base.0 == 0 {
         return PickAnswer::NoPick(Refusal::ZeroBase);
     }
     let i = size as usize;
-    PickAnswer::Picked(Opc(r.xor[i] ^ word), size)
+    PickAnswer::Picked(Opc(r.xor[i] ^ word.0), size)
 }
 
 // The register's kind gives the size: Vec16, Vec32, Vec64.
@@ -87,7 +87,7 @@ fn pick_scalar(kind: u32, op: Opc, row: u32) -> PickAnswer
     if size > 2 {
         return PickAnswer::NoPick(Refusal::NoField);
     }
-    row_word(row, size, op.0, op.0)
+    row_word(row, size, op, op)
 }
 
 // The element gives the size, H, S, D, and the register's kind bit 30: Vec64, Vec128.
@@ -105,7 +105,7 @@ fn pick_vector(kind: u32, element: u32, op: Opc, row: u32) -> PickAnswer
     if size > 2 {
         return PickAnswer::NoPick(Refusal::NoField);
     }
-    row_word(row, size, op.0, op.0 | q * 0x4000_0000)
+    row_word(row, size, op, Opc(op.0 | q * 0x4000_0000))
 }
 
 // The word of a scalar or a vector instruction, from the base and the row for it; the other base and row are not looked at.

@@ -7,7 +7,7 @@ use native.Mathlib.Omega.{arith}
 use Rattle.arm.specs.Immediates.{VFPExpandImm, ByteMask}
 use Rattle.arm.proofs.Bytes.{byteAt, bitAt, Whole, mask-byte, mask-of}
 use Rattle.words.specs.Said.{Said, ok, no}
-use Rattle.words.proofs.Answers.{no-number, not-both}
+use Rattle.words.proofs.Answers.{not-both}
 use Rattle.immediates.specs.Says.{Spells, IsFloatWidth, FloatSays, MaskSays, Tests}
 use Rattle.immediates.specs.Steps.{isOk}
 use Rattle.immediates.proofs.Determined.{one-float}
@@ -33,7 +33,7 @@ module _ (N v : ℕ) where
   pub float-refused : FloatSays N v (no 3) → IsFloatWidth N × ((b : ℕ) → Float N v b → ⊥)
   unfolding FloatSays Spells
   float-refused (inl s) = (s .0, λ b f. s .1 .1 b (f .0) (f .1))
-  float-refused (inr s) = let e : _≡_ {A = ℕ} 3 1 = no-number (s .1) in absurd (omega arith)
+  float-refused (inr s) = let e : _≡_ {A = ℕ} 3 1 = cc (s .1) in absurd (omega arith)
 
   pub float-none : (a : Said ℕ) → IsFloatWidth N → ((b : ℕ) → Float N v b → ⊥) → FloatSays N v a → a ≡ no 3
   unfolding FloatSays Spells
@@ -54,7 +54,7 @@ module _ (N v : ℕ) where
   pub float-numbers : (n : ℕ) → FloatSays N v (no n) → (n ≡ 1) ⊎ (n ≡ 3)
   unfolding FloatSays Spells
   float-numbers n (inl s) = inr (s .1 .0)
-  float-numbers n (inr s) = inl (no-number (s .1))
+  float-numbers n (inr s) = inl (cc (s .1))
 
   -- "bits above 16 or 32 are ignored": only the low N bits count
   pub high-bits : (w : ℕ) (a : Said ℕ) → v % 2 ^ N ≡ w % 2 ^ N → FloatSays N v a → FloatSays N w a

@@ -5,10 +5,10 @@ use mathlib.Core.List.{[], _∷_}
 use mathlib.Core.Logic.{inl, inr, ⊎-elim}
 use Prim.Native.Nat.{ℕ, _%_, _^_}
 use borrow.Author.Tests.{eqb-true, eqb-false}
-use lib.Dec.{T, eqb}
+use lib.Dec.{eqb}
 use Rattle.arm.proofs.Expand.{readFloat, readMask, floatSum, maskSum}
+use Rattle.arm.proofs.Worked.{Worked}
 use Rattle.words.specs.Said.{Said, ok, no}
-use Rattle.words.proofs.Alike.{allAlike}
 use Rattle.immediates.specs.Says.{FloatSays, MaskSays}
 use Rattle.immediates.specs.Steps.{settled}
 use Rattle.immediates.proofs.Laws.{fp16, fp32, fp64, mask}
@@ -58,7 +58,7 @@ ends a s = mask-of 0xFF000000000000FF a s
 
 -- neighbours, in one test
 pub all-right :
-    T (allAlike eqb
+    Worked
     ((floatOf 64 0xC03F000000000000, ok 191)  -- -31.0
     ∷ (floatOf 64 0x3FF0000000000001, no 3)  -- a fraction bit below
     ∷ (floatOf 64 0x7FF0000000000000, no 3)  -- infinity: a wrong run of the exponent
@@ -75,6 +75,6 @@ pub all-right :
     ∷ (maskOf 0xFF00000000000000, ok 128)
     ∷ (maskOf 0x00000000000000FE, no 3)
     ∷ (maskOf 0x0100000000000000, no 3)
-    ∷ []))
+    ∷ [])
 unfolding readMask maskSum
-all-right = tt
+all-right = refl

@@ -25,12 +25,12 @@ module _ (f g : ℕ → ℕ) (back : (b : ℕ) → b < 256 → g (f b) ≡ b) wh
       by true e = (h, eqb-true (f (g x)) x e)
       by false e = (refl, none x (eqb-false (f (g x)) x e))
 
-  pub one-answer : (x : ℕ) (a a' : Said ℕ) → Spells f x a → Spells f x a' → a ≡ a'
+  pub one-said : (x : ℕ) (a a' : Said ℕ) → Spells f x a → Spells f x a' → a ≡ a'
   unfolding Spells
-  one-answer x (ok b) (ok c) s t = ap ok (at-most-one (s .0) (t .0) (s .1 ∙ sym (t .1)))
-  one-answer x (ok b) (no n) s t = absurd (t .1 b (s .0) (s .1))
-  one-answer x (no m) (ok c) s t = absurd (s .1 c (t .0) (t .1))
-  one-answer x (no m) (no n) s t = ap no (s .0 ∙ sym (t .0))
+  one-said x (ok b) (ok c) s t = ap ok (at-most-one (s .0) (t .0) (s .1 ∙ sym (t .1)))
+  one-said x (ok b) (no n) s t = absurd (t .1 b (s .0) (s .1))
+  one-said x (no m) (ok c) s t = absurd (s .1 c (t .0) (t .1))
+  one-said x (no m) (no n) s t = ap no (s .0 ∙ sym (t .0))
 
 -- whether there is an answer
 pub tested : (f : ℕ → ℕ) (x : ℕ) (a : Said ℕ) → Spells f x a → Tests f x (isOk a)

@@ -62,7 +62,7 @@ fn encode_fp64(val: u64) -> Imm8Answer
 }
 
 // The 8-bit float of the low bits of a value.
-pub fn encode_fp_to_imm8(width: u32, val: u64) -> Imm8Answer
+pub fn encode_fp_to_imm8(val: u64, width: u32) -> Imm8Answer
     ensures { λ r. ⌜ FloatSays width val (said r) ⌝ }
 {
     match width {

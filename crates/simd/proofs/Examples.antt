@@ -1,21 +1,17 @@
 -- Worked values of `encode_lmh`, one computed test. Assumes nothing.
-use mathlib.Core.Bool.{Bool, _&&_}
+use mathlib.Core.Path.{refl}
 use mathlib.Core.List.{[], _∷_}
 use Prim.Native.Nat.{ℕ}
-use lib.Dec.{T, eqb}
+use Rattle.arm.proofs.Worked.{Worked}
 use Rattle.words.specs.Said.{Said, ok, no}
 use Rattle.simd.specs.declared.Lmh.{Lmh}
 use Rattle.simd.specs.Lmh.{lmhOf}
-use Rattle.words.proofs.Alike.{allAlike}
-
-abbrev sameLmh : Lmh → Lmh → Bool
-sameLmh f g = eqb (f .lm) (g .lm) && eqb (f .h) (g .h) && eqb (f .«max_rm_id») (g .«max_rm_id»)
 
 abbrev fields : ℕ → ℕ → ℕ → Said Lmh
 fields lm h limit = ok (record { lm = lm; h = h; «max_rm_id» = limit })
 
 pub lmhs :
-    T (allAlike sameLmh
+    Worked
     ((lmhOf 1 0, fields 0 0 15)
     ∷ (lmhOf 1 7, fields 3 1 15)
     ∷ (lmhOf 1 8, no 9)
@@ -24,6 +20,6 @@ pub lmhs :
     ∷ (lmhOf 2 4, no 9)
     ∷ (lmhOf 0 0, no 7)
     ∷ (lmhOf 3 9, no 7)
-    ∷ []))
+    ∷ [])
 unfolding lmhOf
-lmhs = tt
+lmhs = refl

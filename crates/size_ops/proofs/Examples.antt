@@ -1,14 +1,14 @@
 -- Worked values of `element_type_to_size_op`, one computed test. Assumes nothing.
+use mathlib.Core.Path.{refl}
 use mathlib.Core.List.{[], _∷_}
-use lib.Dec.{T, eqb}
+use Rattle.arm.proofs.Worked.{Worked}
 use Rattle.words.specs.Said.{ok, no}
-use Rattle.words.proofs.Alike.{allAlike}
 use Rattle.size_ops.specs.SizeOp.{entryOf, acceptedOf, sizeOpOf}
 
 -- with every bit accepted and kept, and with some
 
 pub size-ops :
-    T (allAlike eqb
+    Worked
     ((sizeOpOf 0 15 0xFFFF 6 0, ok 0)
     ∷ (sizeOpOf 0 15 0xFFFF 7 1, ok 1)
     ∷ (sizeOpOf 0 15 0xFFFF 7 2, ok 255)
@@ -23,6 +23,6 @@ pub size-ops :
     ∷ (sizeOpOf 2 15 0xFFFF 7 1, no 7)
     ∷ (sizeOpOf 1 15 0xFFFF 8 1, no 7)
     ∷ (sizeOpOf 1 15 0xFFFF 7 8, no 7)
-    ∷ []))
+    ∷ [])
 unfolding sizeOpOf acceptedOf entryOf
-size-ops = tt
+size-ops = refl

@@ -83,7 +83,7 @@ put-field-requires c κs =
 
 returns-4 : tie.Need-returns-4
 returns-4 c =
-    let m = c .before in
+    let m = c .before .before in
     let k = m .before .before .before in
     let j = k .before in
     let a = j .before .before .before .before .before .before .before in
@@ -91,8 +91,8 @@ returns-4 c =
     let b = a .args .base .0 in
     let d = a .args .distance .0 in
     let near = in-reach (f .bits + f .scale) (omega (arith, a .pre .some)) (a .pre .narrow) d (fits (j .before .before .before .before .before)) (k .wrapping-add-u64 .result) (sum k) (m .before .before .if3 .left) in
-    let word = c .put-field .ensures ∙ ap (putIn f b) (steps m) in
-    ap (λ (w : ℕ). packed (ok (w ∷ []))) word ∙ sym (ap packed (place-word f b d (free (j .before .before)) (on j) (range-near f (a .pre) d (on j) near)))
+    let word = c .before .put-field .ensures ∙ ap (putIn f b) (steps m) in
+    ap ok (c .one .ensures) ∙ ap (λ (w : ℕ). packed (ok (w ∷ []))) word ∙ sym (ap packed (place-word f b d (free (j .before .before)) (on j) (range-near f (a .pre) d (on j) near)))
 
 pub place-spec : {M : Type 1} → statement M
 place-spec =
@@ -115,4 +115,5 @@ place-spec =
     (search needs)
     (search needs)
     put-field-requires
+    (search needs)
     returns-4)

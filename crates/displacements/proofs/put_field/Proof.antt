@@ -16,16 +16,16 @@ made c =
 small : (c : tie.Start) → putIn (c .args .f) (c .args .base .0) (c .args .v) < 2 ^ 32
 small c = put-fits (c .args .f) (c .pre .0) (c .args .base .0) (c .args .v) (c .pre .1) (c .pre .2) (search needs)
 
-add-result : tie.Need-add-result
-add-result c =
+add-w : tie.Need-add-w
+add-w c =
     let a = c .before .before .before in
     record { fits = omega (arith, rest-made (a .args .f) (a .pre .0) (a .args .v) (a .pre .2), small a) }
 
-add-result-2 : tie.Need-add-result-2
-add-result-2 c = record { fits = omega (arith, made c, small (c .before .before .before .before)) }
+add-w-2 : tie.Need-add-w-2
+add-w-2 c = record { fits = omega (arith, made c, small (c .before .before .before .before)) }
 
-cast-result-3 : tie.Need-cast-result-3
-cast-result-3 c = record { fits = omega (arith, made c, small (c .before .before .before .before)) }
+cast-w-3 : tie.Need-cast-w-3
+cast-w-3 c = record { fits = omega (arith, made c, small (c .before .before .before .before)) }
 
 returns : tie.Need-returns
 returns c = made c
@@ -39,8 +39,8 @@ put-field-spec =
     (search needs)
     (search needs)
     (search needs)
-    add-result
+    add-w
     (search needs)
-    add-result-2
-    cast-result-3
+    add-w-2
+    cast-w-3
     returns)

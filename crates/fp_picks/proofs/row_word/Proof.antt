@@ -15,14 +15,15 @@ returns c =
 returns-2 : tie.Need-returns-2
 unfolding wordOf
 returns-2 c =
-    let k = c .before .before in
-    simp (← k .before .fp-row .ensures, sym (k .bit-test .ensures) ∙ not-false _ (c .before .if1 .left), eq-eqb _ _ (c .if2 .taken))
+    let k = c .before .before .before in
+    simp (← k .before .fp-row .ensures, sym (k .bit-test .ensures) ∙ not-false _ (c .before .before .if1 .left), eq-eqb _ _ (c .if2 .taken))
 
 returns-3 : tie.Need-returns-3
 unfolding wordOf
 returns-3 c =
-    let k = c .before .before .before in
-    simp (← k .before .fp-row .ensures, sym (k .bit-test .ensures) ∙ not-false _ (c .before .before .if1 .left), ne-eqb _ _ (c .before .if2 .left))
+    let tests = c .before .before in
+    let k = tests .before .before .before in
+    simp (← k .before .fp-row .ensures, sym (k .bit-test .ensures) ∙ not-false _ (tests .before .before .if1 .left), ne-eqb _ _ (tests .if2 .left))
 
 pub row-word-spec : {M : Type 1} → statement M
 row-word-spec = tie.close (tie.spec (search needs) (search needs) returns returns-2 (search needs) (search needs) returns-3)
