@@ -7,6 +7,7 @@ use Prim.Native.Nat.{ℕ, _+_, _-_, _^_}
 use native.Mathlib.Omega.{arith}
 use Rattle.arm.specs.Bits.{Replicate}
 use Rattle.arm.specs.BitMasks.{highestSetBit, len, esize, Legal, wmask}
+use Rattle.arm.specs.LogicalImmediate.{LogicalOp, AND, ORR, EOR, ANDS, Logical, defined, decodeLogical}
 use Rattle.arm.specs.MoveWide.{decode, Regs, exec, run}
 use Rattle.arm.specs.Displacements.{B, Bcond, TBZ, ADR, ADRP, LDR}
 use Rattle.arm.specs.Immediates.{VFPExpandImm, byteMasks, ByteMask}
@@ -31,6 +32,7 @@ pub masks :
     ∷ (wmask 32 0 1 1, 0x80000001)
     ∷ (wmask 32 0 30 0, 0x7FFFFFFF)
     ∷ (wmask 32 0 23 12, 0xFFF00FFF)
+    ∷ (wmask 32 0 50 3, 0xE0E0E0E0)
     ∷ [])
 unfolding wmask esize len highestSetBit Replicate
 masks = refl
@@ -51,6 +53,33 @@ module _ (w r : ℕ) where
 
   pub wide-at-32 : (s : ℕ) → Legal 32 1 s r → ⊥
   wide-at-32 s h = omega (arith, h .narrow refl)
+
+-- ---- AND, ORR, EOR, ANDS, by their fields
+
+abbrev logical : (sf : ℕ) → LogicalOp → (N immr imms Rn Rd : ℕ) → Option Logical
+logical sf op N immr imms Rn Rd = some (record { sf = sf; op = op; N = N; immr = immr; imms = imms; Rn = Rn; Rd = Rd })
+
+pub logicals :
+    Worked
+    ((decodeLogical 0x92401C64, logical 1 AND 1 0 7 3 4)  -- and x4, x3, #0xff
+    ∷ (decodeLogical 0x12001C64, logical 0 AND 0 0 7 3 4)  -- and w4, w3, #0xff
+    ∷ (decodeLogical 0x927FF87F, logical 1 AND 1 63 62 3 31)  -- and sp, x3, #0xfffffffffffffffe
+    ∷ (decodeLogical 0x1203C822, logical 0 AND 0 3 50 1 2)  -- and w2, w1, #0xe0e0e0e0
+    ∷ (decodeLogical 0xB201F3C0, logical 1 ORR 0 1 60 30 0)  -- orr x0, x30, #0xaaaaaaaaaaaaaaaa
+    ∷ (decodeLogical 0x320107E7, logical 0 ORR 0 1 1 31 7)  -- orr w7, wzr, #0x80000001
+    ∷ (decodeLogical 0xD2410429, logical 1 EOR 1 1 1 1 9)  -- eor x9, x1, #0x8000000000000001
+    ∷ (decodeLogical 0x52007820, logical 0 EOR 0 0 30 1 0)  -- eor w0, w1, #0x7fffffff
+    ∷ (decodeLogical 0xF20C9C5F, logical 1 ANDS 0 12 39 2 31)  -- ands xzr, x2, #0xff00ff00ff00ff0
+    ∷ (decodeLogical 0x720C5CC5, logical 0 ANDS 0 12 23 6 5)  -- ands w5, w6, #0xfff00fff
+    ∷ (decodeLogical 0x12401C64, none)  -- N = 1 at 32 bits
+    ∷ (decodeLogical 0x9240FC64, none)  -- S all ones, of 64 bits
+    ∷ (decodeLogical 0x9200F464, none)  -- and of 2
+    ∷ (decodeLogical 0x9200F864, none)  -- no length
+    ∷ (decodeLogical 0xD28000A0, none)  -- movz x0, #5
+    ∷ (decodeLogical 0xAA020020, none)  -- orr x0, x1, x2
+    ∷ [])
+unfolding decodeLogical defined esize len highestSetBit
+logicals = refl
 
 -- ---- MOVN, MOVZ, MOVK, from registers that hold 1111222233334444 and their own number
 

@@ -9,7 +9,7 @@ use borrow.Author.Tests.{le-leb, lt-leb, leb-true, leb-false}
 use lib.Dec.{leb}
 use lib.Pow.{pow-mono, pow-pos}
 use Rattle.arm.specs.BitMasks.{highestSetBit, len, esize, Legal, IsWidth}
-use Rattle.arm.proofs.Elements.{Element, nOf, sOf}
+use Rattle.arm.specs.Elements.{Element, nOf, sOf}
 use Rattle.arm.proofs.Lengths.{at-each}
 
 -- the highest set bit is the j with 2 ^ j ≤ x < 2 ^ (j + 1)

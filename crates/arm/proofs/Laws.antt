@@ -6,7 +6,7 @@ use native.Mathlib.Nat.{mod-lt, mod-mod}
 use native.Mathlib.Omega.{arith}
 use Rattle.arm.specs.Bits.{Ones}
 use Rattle.arm.specs.BitMasks.{IsWidth, Legal, wmask, esize}
-use Rattle.arm.proofs.Elements.{IsRun, nOf, sOf}
+use Rattle.arm.specs.Elements.{IsRun, nOf, sOf}
 use Rattle.arm.proofs.Runs.{run-le, run-even, run-unique}
 use Rattle.arm.proofs.Lengths.{ones-mod}
 use Rattle.arm.proofs.Trailing.{le-or-lt, parity}

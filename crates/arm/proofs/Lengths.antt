@@ -7,7 +7,7 @@ use native.Mathlib.Omega.{arith}
 use lib.Pow.{pow-pos}
 use Rattle.arm.specs.Bits.{Ones, Replicate}
 use Rattle.arm.specs.BitMasks.{IsWidth}
-use Rattle.arm.proofs.Elements.{Element}
+use Rattle.arm.specs.Elements.{Element}
 
 -- what holds at each of 1 to 6, and at 32 and 64
 pub at-each : (P : ℕ → Type 0) → P 1 → P 2 → P 3 → P 4 → P 5 → P 6 → (j : ℕ) → 1 ≤ j → j ≤ 6 → P j

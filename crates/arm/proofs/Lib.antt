@@ -1,7 +1,8 @@
 -- The laws about Arm's definitions, for the proofs of other crates, and worked values.
 pub mod Examples
+pub mod Worked
+pub mod Tests
 -- DecodeBitMasks
-pub mod Elements
 pub mod Trailing
 pub mod Lengths
 pub mod Runs
@@ -9,6 +10,8 @@ pub mod Fields
 pub mod Masks
 pub mod Laws
 pub mod Shortest
+-- logical words
+pub mod Logical
 -- wide moves
 pub mod Wide
 -- displacements
@@ -16,4 +19,3 @@ pub mod SignExtends
 -- 8-bit immediates
 pub mod Expand
 pub mod Bytes
-pub mod Worked

@@ -6,7 +6,7 @@ use native.Mathlib.Nat.{mod-eq-of-lt, mod-lt}
 use native.Mathlib.Omega.{arith}
 use Rattle.arm.specs.Bits.{Ones, ROR, Replicate}
 use Rattle.arm.specs.BitMasks.{IsWidth, Legal, wmask, esize}
-use Rattle.arm.proofs.Elements.{Element, runs, IsRun, nOf, sOf}
+use Rattle.arm.specs.Elements.{Element, runs, IsRun, nOf, sOf}
 use Rattle.arm.proofs.Runs.{copies, plain-copies, wrapped-copies}
 use Rattle.arm.proofs.Lengths.{doubled, whole, width-le}
 use Rattle.arm.proofs.Fields.{spelt, legal-element}

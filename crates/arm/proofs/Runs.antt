@@ -8,7 +8,7 @@ use lib.Pow.{pow-pos, pow-add, pow-mono, ones-lt, ones-split, high, low, shl-lt,
 use lib.Count.{trailingZeros, leadingZeros, leading-unique}
 use Rattle.arm.specs.Bits.{Ones, ROR, Replicate}
 use Rattle.arm.specs.BitMasks.{IsWidth}
-use Rattle.arm.proofs.Elements.{runs, IsRun}
+use Rattle.arm.specs.Elements.{runs, IsRun}
 use Rattle.arm.proofs.Lengths.{width-le, whole, once}
 use Rattle.arm.proofs.Trailing.{Odd, zeros-at}
 

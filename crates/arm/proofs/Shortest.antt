@@ -7,7 +7,7 @@ use native.Mathlib.Omega.{arith}
 use lib.Pow.{high, low, lt-of-le-ones, mod-mod-pow, ones-lt, ones-split, pow-add, pow-mono, pow-pos, shl-lt, shr-lt}
 use Rattle.arm.specs.Bits.{Ones, ROR, Replicate}
 use Rattle.arm.specs.BitMasks.{IsWidth, Legal, wmask, esize}
-use Rattle.arm.proofs.Elements.{Element, runs, IsRun}
+use Rattle.arm.specs.Elements.{Element, runs, IsRun}
 use Rattle.arm.proofs.Trailing.{le-or-lt, parity}
 use Rattle.arm.proofs.Lengths.{whole, once}
 use Rattle.arm.proofs.Runs.{copies, all-ones, odd-ones, fixed, turned-same, run-le, run-even, run-unique}

@@ -2,5 +2,8 @@
 pub mod Bits
 pub mod BitMasks
 pub mod MoveWide
+pub mod LogicalImmediate
 pub mod Displacements
 pub mod Immediates
+-- not Arm's: what the contracts of private functions cite
+pub mod Elements

@@ -5,8 +5,8 @@ use Prim.Native.Nat.{ℕ, _-_, _*_, _%_, _^_, _<_}
 use native.Mathlib.Nat.{mod-eq-of-lt, mod-mod}
 use native.Mathlib.Omega.{arith}
 use Rattle.arm.specs.Bits.{Ones}
-use Rattle.arm.specs.BitMasks.{IsWidth, wmask}
-use Rattle.arm.proofs.Elements.{IsRun, nOf, sOf}
+use Rattle.arm.specs.BitMasks.{IsWidth, wmask, esize}
+use Rattle.arm.specs.Elements.{IsRun, nOf, sOf}
 use Rattle.arm.proofs.Lengths.{ones-mod}
 use Rattle.arm.proofs.Trailing.{parity}
 use Rattle.arm.proofs.Masks as masks
@@ -33,15 +33,22 @@ one-number a b =
     a
 
 pub one-fields : {w : ℕ} (v v' : ℕ) {f g : LogicalImm} → Encoded w v (ok f) → Encoded w v' (ok g) → v % 2 ^ w ≡ v' % 2 ^ w → f ≡ g
-one-fields v v' a b q =
+one-fields v v' {f} {g} a b q =
     let t = same-fields (a .0) (a .1 .legal) (b .1 .legal) (a .1 .mask ∙ q ∙ sym (b .1 .mask)) in
-    fields-is (t .0) (t .1) (sym (mod-eq-of-lt (a .2)) ∙ t .2 ∙ mod-eq-of-lt (b .2))
+    let f-low : f .r % esize (f .n) (f .s) ≡ f .r = mod-eq-of-lt (omega (arith, a .2)) in
+    let g-low : g .r % esize (g .n) (g .s) ≡ g .r = mod-eq-of-lt (omega (arith, b .2)) in
+    fields-is (t .0) (t .1) (sym f-low ∙ t .2 ∙ g-low)
 
 pub encoded-one : (w v : ℕ) (a b : Said LogicalImm) → Encoded w v a → Encoded w v b → a ≡ b
 encoded-one w v (ok f) (ok g) a b = ap ok (one-fields v v a b refl)
 encoded-one w v (ok f) (no k) a b = not-refused (a .0) (λ none. none _ _ _ (a .1)) b
 encoded-one w v (no k) (ok g) a b = not-refused (b .0) (λ none. none _ _ _ (b .1)) a
 encoded-one w v (no j) (no k) a b = ap no (one-number a b)
+
+-- what is made of some answer to a value is one thing
+pub one-from : {w v : ℕ} {A : Type 0} {y z : A} {f : Said LogicalImm → A}
+    → ((a : Said LogicalImm) × Encoded w v a × (y ≡ f a)) → ((a : Said LogicalImm) × Encoded w v a × (z ≡ f a)) → y ≡ z
+one-from {w} {v} {f = f} p q = p .2 ∙ ap f (encoded-one w v (p .0) (q .0) (p .1) (q .1)) ∙ sym (q .2)
 
 -- ---- from a run to the encoder's answer
 

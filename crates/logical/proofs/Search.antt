@@ -7,7 +7,7 @@ use lib.Count.{trailingZeros, trailing-of-zero, leadingZeros, leading-length}
 use lib.Pow.{high, low, mod-mod-pow, ones-lt, pow-add, pow-mono, pow-pos, shl-lt}
 use Rattle.arm.specs.Bits.{Ones, ROR, Replicate}
 use Rattle.arm.specs.BitMasks.{IsWidth}
-use Rattle.arm.proofs.Elements.{Element, IsRun}
+use Rattle.arm.specs.Elements.{Element, IsRun}
 use Rattle.arm.proofs.Lengths.{once, whole, width-le}
 use Rattle.arm.proofs.Runs.{fixed, one-more, periodic, read-run, turned-same}
 use Rattle.arm.proofs.Trailing.{pow-lt-back, zeros-le, zeros-some, zeros-split}

@@ -4,7 +4,7 @@ ghost use mathlib.Core.Path.{_≡_};
 ghost use Prim.Native.Nat.{_%_, _^_, _≤_, _<_};
 ghost use lib.Count.{trailingZeros};
 ghost use Rattle.arm.specs.Bits.{ROR};
-ghost use Rattle.arm.proofs.Elements.{nOf, sOf};
+ghost use Rattle.arm.specs.Elements.{nOf, sOf};
 ghost use Rattle.logical.specs.Answer.{fields, fieldsSaid, Encoded};
 ghost use Rattle.logical.specs.Run.{Found, Evened};
 

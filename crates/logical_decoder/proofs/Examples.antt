@@ -1,17 +1,13 @@
--- Document 01's example 7 at both widths, a checked table, through the function that computes the encoder's answer (`the-answer` of logical/proofs/Model).
--- Assumes nothing.
+-- The normaliser's answer as a function that antt computes, by which document 01's example 7 is checked (examples/proofs/Table), and that example by its
+-- promise. Assumes nothing.
 use mathlib.Core.Path.{_≡_, refl}
-use mathlib.Core.List.{[], _∷_}
 use Prim.Native.Nat.{ℕ}
 use native.Mathlib.Omega.{arith}
-use lib.Dec.{T, lit<, lit≤}
-use Rattle.arm.specs.Bits.{Replicate}
-use Rattle.arm.specs.BitMasks.{IsWidth, highestSetBit, len, esize, wmask}
+use lib.Dec.{lit<, lit≤}
+use Rattle.arm.specs.BitMasks.{IsWidth, esize, wmask}
 use Rattle.words.specs.Said.{Said, ok}
-use Rattle.words.proofs.Alike.{allAlike}
 use Rattle.logical.specs.Answer.{fields}
 use Rattle.logical.specs.declared.LogicalImm.{LogicalImm}
-use Rattle.logical.proofs.Examples.{same}
 use Rattle.logical.proofs.Model.{encodeOf, the-answer}
 use Rattle.logical_decoder.specs.Answer.{Decoded, Normal}
 use Rattle.logical_decoder.proofs.Laws.{again}
@@ -19,14 +15,6 @@ use Rattle.logical_decoder.proofs.Laws.{again}
 -- decoded, then encoded
 abbrev pub normalOf : ℕ → ℕ → ℕ → ℕ → Said LogicalImm
 normalOf w n s r = encodeOf w (wmask w n s r)
-
-pub examples :
-    T (allAlike same
-    ((normalOf 64 0 60 5, ok (fields 0 60 1))
-    ∷ (normalOf 32 0 60 5, ok (fields 0 60 1))
-    ∷ []))
-unfolding encodeOf wmask esize len highestSetBit Replicate
-examples = tt
 
 -- what the normaliser gives is what is computed, and it gives example 7's at both widths
 pub the-normal : (w n s r : ℕ) (f : LogicalImm) → Normal w n s r (ok f) → ok f ≡ normalOf w n s r

@@ -5,7 +5,7 @@ ghost use mathlib.Core.Path.{_≡_};
 ghost use Prim.Native.Nat.{ℕ, _+_, _/_, _%_, _^_, _≤_, _<_};
 ghost use Rattle.arm.specs.Bits.{Ones, ROR, Replicate};
 ghost use Rattle.arm.specs.BitMasks.{IsWidth, highestSetBit};
-ghost use Rattle.arm.proofs.Elements.{Element, runs};
+ghost use Rattle.arm.specs.Elements.{Element, runs};
 ghost use Rattle.logical.specs.Answer.{fieldsSaid};
 ghost use Rattle.logical_decoder.specs.Answer.{maskSaid, Decoded, Normal};
 

@@ -8,17 +8,15 @@ use native.Mathlib.Omega.{arith}
 use borrow.Author.Tests.{lt-ltb, le-ltb, ne-eqb, ltb-false}
 use lib.Dec.{eqb, ltb, eqb→eq}
 use lib.ListN.{getD}
-use Rattle.arm.specs.Bits.{bits}
 use Rattle.arm.specs.BitMasks.{IsWidth}
-use Rattle.arm.specs.MoveWide.{datasize}
 use Rattle.arm.proofs.Lengths.{at-widths}
+use Rattle.arm.proofs.Logical.{spelled}
 use Rattle.words.specs.Said.{Said, ok, no}
 use Rattle.words.specs.Listed.{listed, packed}
 use Rattle.words.specs.declared.Words.{Words}
 use Rattle.words.proofs.Answers.{Short, listed-packed, not-both}
 use Rattle.words.proofs.Table.{at}
 use Rattle.logical.specs.declared.LogicalImm.{LogicalImm}
-use Rattle.logical.proofs.Model.{encodeOf, the-answer}
 use Rattle.logical_words.specs.Word.{bases, baseOf, placedOf, filled, wordOf, ForWord}
 
 -- ---- the base: operations rise by 20000000 (hex)
@@ -83,10 +81,6 @@ word-made operation w rn rd x a = go (ltb 3 operation) (not (eqb w 32 || eqb w 6
         record { known = ltb-false 3 operation p; rn-low = ltb-false 31 rn q; rd-low = ltb-false 31 rd r; f = f; given = refl; word = cc }
     go false false false false (no k) p q r h = absurd (not-both (sym h))
 
--- what holds of the word from some answer of the encoder holds of the one that is computed
-pub word-computed : (operation w v rn rd : ℕ) (P : Said (List ℕ) → Type 0) → ForWord operation w v rn rd P → P (wordOf operation w rn rd (encodeOf w v))
-word-computed operation w v rn rd P h = subst (λ (a : Said LogicalImm). P (wordOf operation w rn rd a)) (the-answer w v (h .0) (h .1)) (h .2)
-
 -- no more words than a value holds
 word-short : (operation w rn rd : ℕ) (a : Said LogicalImm) → Short (wordOf operation w rn rd a)
 unfolding wordOf
@@ -103,31 +97,8 @@ word-short operation w rn rd a = go (ltb 3 operation) (not (eqb w 32 || eqb w 64
 pub word-listed : (operation w rn rd : ℕ) (a : Said LogicalImm) {x : Said Words} → x ≡ packed (wordOf operation w rn rd a) → listed x ≡ wordOf operation w rn rd a
 word-listed operation w rn rd a q = ap listed q ∙ listed-packed (wordOf operation w rn rd a) (word-short operation w rn rd a)
 
--- ---- the word, read as Arm's "Logical (immediate)": sf 31, opc 30:29, 100100 at 28:23, N 22, immr 21:16, imms 15:10, Rn 9:5, Rd 4:0
+-- ---- the word with its fields where Arm has them
 
-pub record Fields (x operation w n s r rn rd : ℕ) : Type 0 where
-  pub sf : datasize (bits 31 31 x) ≡ w
-  pub opc : bits 30 29 x ≡ operation
-  pub fixed : bits 28 23 x ≡ 0b100100
-  pub N : bits 22 22 x ≡ n
-  pub immr : bits 21 16 x ≡ r
-  pub imms : bits 15 10 x ≡ s
-  pub Rn : bits 9 5 x ≡ rn
-  pub Rd : bits 4 0 x ≡ rd
-
-pub read-back : (operation w rn rd : ℕ) (f : LogicalImm) → operation ≤ 3 → IsWidth w → f .n ≤ 1 → f .s ≤ 63 → f .r ≤ 63 → rn ≤ 31 → rd ≤ 31
-    → Fields (placedOf (baseOf operation w) f rn rd) operation w (f .n) (f .s) (f .r) rn rd
-read-back operation w rn rd f o ww hn hs hr n d =
-    let wide : w / 64 ≤ 1 = at-widths (λ (k : ℕ). k / 64 ≤ 1) (omega arith) (omega arith) w ww in
-    let size : datasize (w / 64) ≡ w = at-widths (λ (k : ℕ). datasize (k / 64) ≡ k) refl refl w ww in
-    rw (← base-is operation w o ww)
-    (record {
-      sf = ap datasize (omega arith) ∙ size;
-      opc = omega arith;
-      fixed = omega arith;
-      N = omega arith;
-      immr = omega arith;
-      imms = omega arith;
-      Rn = omega arith;
-      Rd = omega arith;
-    })
+pub word-spelled : (operation w rn rd : ℕ) (f : LogicalImm) → operation ≤ 3 → IsWidth w
+    → placedOf (baseOf operation w) f rn rd ≡ spelled (w / 64) operation (f .n) (f .r) (f .s) rn rd
+word-spelled operation w rn rd f h ww = rw (← base-is operation w h ww) (omega arith)

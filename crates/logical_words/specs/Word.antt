@@ -34,5 +34,5 @@ wordOf operation w rn rd a =
     (filled (baseOf operation w) rn rd a)))
 
 -- P x, where x is what the entry says: the word from an answer of the encoder to v, of which `Encoded` allows one
-abbrev pub ForWord : (operation w v rn rd : ℕ) → (Said (List ℕ) → Type 0) → Type 0
-ForWord operation w v rn rd P = (a : Said LogicalImm) × Encoded w v a × P (wordOf operation w rn rd a)
+abbrev pub ForWord : (operation v w rn rd : ℕ) → (Said (List ℕ) → Type 0) → Type 0
+ForWord operation v w rn rd P = (a : Said LogicalImm) × Encoded w v a × P (wordOf operation w rn rd a)

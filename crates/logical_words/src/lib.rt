@@ -1,10 +1,10 @@
 // Module 3's logical word: an operation, two registers and the fields of a value in one instruction word.
 use logical::LogicalAnswer;
 use logical::LogicalImm;
+use words::Opc;
 use words::Refusal;
 use words::WordPos;
 use words::Worded;
-use words::Words;
 use words::Written;
 ghost use mathlib.Core.Path.{_≡_};
 ghost use Prim.Native.Nat.{_%_, _^_, _≤_};
@@ -15,24 +15,24 @@ ghost use Rattle.writers.specs.Put.{putOf};
 ghost use Rattle.logical_words.specs.Word.{baseOf, placedOf, ForWord};
 
 // AND, ORR, EOR, ANDS, at width 32 or 64.
-fn base(operation: u32, width: u32) -> u32
+fn base(operation: u32, width: u32) -> Opc
     requires { ⌜ (operation ≤ 3) × IsWidth width × (width ≤ 64) ⌝ }
-    ensures { λ r. ⌜ (r ≡ baseOf operation width) × (r % 2 ^ 23 ≡ 0) ⌝ }
+    ensures { λ r. ⌜ (r .0 ≡ baseOf operation width) × (r .0 % 2 ^ 23 ≡ 0) ⌝ }
 {
-    0x1200_0000 + operation * 0x2000_0000 + width / 64 * 0x8000_0000
+    Opc(0x1200_0000 + operation * 0x2000_0000 + width / 64 * 0x8000_0000)
 }
 
 // The fields and the registers in a base word.
-fn placed(base: u32, f: LogicalImm, rn: u32, rd: u32) -> u32
-    requires { ⌜ (base % 2 ^ 23 ≡ 0) × (f .n ≤ 1) × (f .s ≤ 63) × (f .r ≤ 63) × (rn ≤ 31) × (rd ≤ 31) ⌝ }
-    ensures { λ r. ⌜ r ≡ placedOf base f rn rd ⌝ }
+fn placed(base: Opc, f: LogicalImm, rn: u32, rd: u32) -> Opc
+    requires { ⌜ (base .0 % 2 ^ 23 ≡ 0) × (f .n ≤ 1) × (f .s ≤ 63) × (f .r ≤ 63) × (rn ≤ 31) × (rd ≤ 31) ⌝ }
+    ensures { λ r. ⌜ r .0 ≡ placedOf (base .0) f rn rd ⌝ }
 {
-    base + f.n * 4194304 + f.r * 65536 + f.s * 1024 + rn * 32 + rd
+    Opc(base.0 + f.n * 4194304 + f.r * 65536 + f.s * 1024 + rn * 32 + rd)
 }
 
 // The logical word of a value, for a writer.
-pub fn logical_word(operation: u32, width: u32, imm: u64, rn: u32, rd: u32) -> Worded
-    ensures { λ r. ⌜ ForWord operation width imm rn rd (λ x. made r ≡ packed x) ⌝ }
+pub fn logical_word(operation: u32, imm: u64, width: u32, rn: u32, rd: u32) -> Worded
+    ensures { λ r. ⌜ ForWord operation imm width rn rd (λ x. made r ≡ packed x) ⌝ }
 {
     if 3 < operation {
         return Worded::Not(Refusal::Unknown);
@@ -48,13 +48,10 @@ pub fn logical_word(operation: u32, width: u32, imm: u64, rn: u32, rd: u32) -> W
         return Worded::Not(Refusal::Register);
     }
     match logical::encode_logical_imm(imm, width) {
-        LogicalAnswer::Fields(f) => Worded::Made(Words {
-            count: 1,
-            a: placed(base(operation, width), f, rn, rd),
-            b: 0,
-            c: 0,
-            d: 0,
-        }),
+        LogicalAnswer::Fields(f) => {
+            let word = placed(base(operation, width), f, rn, rd);
+            Worded::Made(words::one(word.0))
+        }
         LogicalAnswer::NoFields(r) => Worded::Not(r),
     }
 }
@@ -64,12 +61,12 @@ pub fn emit_logical_imm(
     words: &mut [u32],
     at: WordPos,
     operation: u32,
-    width: u32,
     imm: u64,
+    width: u32,
     rn: u32,
     rd: u32,
 ) -> Written
-    ensures { λ r. ⌜ ForWord operation width imm rn rd (λ x. (said r, now (words .exit)) ≡ putOf (now (words .entry)) (at .0) x) ⌝ }
+    ensures { λ r. ⌜ ForWord operation imm width rn rd (λ x. (said r, now (words .exit)) ≡ putOf (now (words .entry)) (at .0) x) ⌝ }
 {
-    writers::put(words, at, logical_word(operation, width, imm, rn, rd))
+    writers::put(words, at, logical_word(operation, imm, width, rn, rd))
 }

@@ -3,7 +3,7 @@ use mathlib.Core.Path.{_≡_, refl, subst}
 use mathlib.Core.Logic.{inr}
 use Prim.Native.Nat.{_%_}
 use native.Mathlib.Omega.{arith}
-use Rattle.arm.proofs.Elements.{IsRun}
+use Rattle.arm.specs.Elements.{IsRun}
 use Rattle.logical.specs.Run.{Found}
 use Rattle.logical.specs.declared.RunAnswer.{RunAnswer}
 use Rattle.logical.proofs.Laws.{even-answer, odd-answer, no-answer}

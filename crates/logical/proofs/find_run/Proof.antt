@@ -6,7 +6,7 @@ use native.Mathlib.Nat.{div-le-self, pos-of-ne-zero}
 use native.Mathlib.Omega.{arith}
 use lib.Count.{leadingZeros}
 use lib.Pow.{pow-mono}
-use Rattle.arm.proofs.Elements.{Element}
+use Rattle.arm.specs.Elements.{Element}
 use Rattle.arm.proofs.Lengths.{at-element}
 use Rattle.logical.proofs.Search.{Seen, zero-none, a-run, no-run, e-low, e-pos}
 use borrow.Author.Needs.{needs}

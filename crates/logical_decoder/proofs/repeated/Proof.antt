@@ -6,7 +6,7 @@ use native.Mathlib.Omega.{arith}
 use lib.Pow.{ones-lt, pow-mono, shl-exact}
 use Rattle.arm.specs.Bits.{Ones, Replicate}
 use Rattle.arm.specs.BitMasks.{IsWidth}
-use Rattle.arm.proofs.Elements.{Element, runs}
+use Rattle.arm.specs.Elements.{Element, runs}
 use Rattle.arm.proofs.Lengths.{cut, whole, width-le}
 use Rattle.arm.proofs.Runs.{bound}
 use Rattle.words.proofs.Low.{least-below}

@@ -49,7 +49,7 @@ placed-requires c κs =
 
 returns-5 : tie.Need-returns-5
 returns-5 c =
-    let at = c .before .before .before in
+    let at = c .before .before .before .before in
     let tests = at .before .before .before in
     let start = tests .before .before in
     let a = start .before .before .args in (
@@ -57,8 +57,9 @@ returns-5 c =
       rw (at .f .given .1) at (at .before .before .encode-logical-imm .ensures),
       rw (
         word-filled (a .operation) (a .width) (a .rn) (a .rd) (ok _) (start .before .if1 .left) (start .match .keys1) (tests .before .if2 .left) (tests .if3 .left),
-        c .placed .ensures,
-        c .before .base .ensures .0,
+        c .one .ensures,
+        c .before .placed .ensures,
+        c .before .before .base .ensures .0,
       ),
     )
 
@@ -85,6 +86,7 @@ logical-word-spec =
     (search needs)
     base-requires
     placed-requires
+    (search needs)
     (search needs)
     returns-5
     returns-6)

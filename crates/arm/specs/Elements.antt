@@ -1,5 +1,5 @@
--- What the laws of DecodeBitMasks speak of, and the encoder's private functions with them: a value as copies of an element with one run of ones.
--- Not Arm's, and no entry's promise cites it. Assumes nothing.
+-- A value as copies of an element with one run of ones: what the laws of DecodeBitMasks and the contracts of private functions speak of. None of it is
+-- Arm's, and no public entry's contract cites it. Assumes nothing.
 use mathlib.Core.Path.{_≡_}
 use Prim.Native.Nat.{ℕ, _+_, _-_, _*_, _/_, _%_, _^_, _≤_}
 use Rattle.arm.specs.Bits.{Ones, Replicate}
