@@ -42,7 +42,7 @@ def moves():
         if entry == MOVE:
             print(f"{arguments[0]:x}", arguments[1], *words)
         if entry == PATCHABLE:
-            size, value, rd = arguments[:3]
+            value, size, rd = arguments[:3]
             print(f"{value % 2 ** size:x}", rd, *words)
 
 

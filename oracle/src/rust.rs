@@ -110,7 +110,7 @@ pub fn count_zero_half_words_64(value: u64) -> u32 {
     encoder::count_zero_half_words_64(value)
 }
 
-pub fn encode_patchable_mov_imm(is_64bit: bool, value: u64, rd: u32) -> Vec<u32> {
+pub fn encode_patchable_mov_imm(value: u64, is_64bit: bool, rd: u32) -> Vec<u32> {
     words(&patchable_mov_imm(rd, is_64bit, value))
 }
 

@@ -67,9 +67,9 @@ fn module_9() {
 fn all_neighbours() {
     for imm8 in 0..256u32 {
         for (width, is_float) in [(16, IS_FP16), (32, IS_FP32), (64, IS_FP64)] {
-            let value = expand_float(width, imm8).unwrap();
+            let value = expand_float(imm8, width).unwrap();
             for near in (0..width).map(|bit| value ^ 1 << bit) {
-                settles(&Request::new(ENCODE_FLOAT, &[width.into(), near]));
+                settles(&Request::new(ENCODE_FLOAT, &[near, width.into()]));
                 settles(&Request::new(is_float, &[near]));
             }
         }
@@ -118,8 +118,8 @@ fn moves_arrive() {
         let value = (LISTS[4].any)(MOVE, &mut random).args[0];
         for old in [0, u64::MAX, random.value()] {
             assert_eq!(run(&move_words(value, 5).unwrap(), old), value);
-            assert_eq!(run(&patchable_words(64, value, 5).unwrap(), old), value);
-            assert_eq!(run(&patchable_words(32, value, 5).unwrap(), old), value & 0xFFFF_FFFF);
+            assert_eq!(run(&patchable_words(value, 64, 5).unwrap(), old), value);
+            assert_eq!(run(&patchable_words(value, 32, 5).unwrap(), old), value & 0xFFFF_FFFF);
         }
     }
 }

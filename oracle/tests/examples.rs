@@ -1,25 +1,43 @@
 //! Document 01's examples, asked of its model and, where it has no departure, of the Rust.
 
+use std::fs;
+use std::path::Path;
+
 use oracle::document::No;
 use oracle::document::displacements::{disp_word, distance, read_disp};
 use oracle::document::immediates::{encode_byte_mask, encode_float, expand_float};
 use oracle::document::logical::{encode_logical_imm, masks, normalise};
 use oracle::document::moves::{move_words, patchable_words};
 use oracle::document::simd::{element_type_to_size_op, pick_fp_opcode};
+use oracle::replay::by_document;
+use oracle::replay::request::Request;
 use oracle::rust;
+
+/// The requests of `crates/examples`, which no list makes: the model answers them as it is stored.
+#[test]
+fn the_stored_examples() {
+    let folder = Path::new(env!("CARGO_MANIFEST_DIR")).join("../crates/examples");
+    let asked = fs::read(folder.join("stdin")).unwrap();
+    let number = |eight: &[u8]| u64::from_le_bytes(eight.try_into().unwrap());
+    let numbers: Vec<u64> = asked.chunks(8).map(number).collect();
+    let text =
+        |request: &[u64]| by_document::answer(&Request::new(request[0], &request[1..])).text();
+    let answers: String = numbers.chunks(8).map(text).collect();
+    assert_eq!(answers, fs::read_to_string(folder.join("stdout")).unwrap());
+}
 
 #[test]
 fn examples_1_to_6_logical_fields() {
     let examples = [
-        (64, 0xFF, Ok([1, 7, 0])),
-        (32, 0x1_0000_00FF, Ok([0, 7, 0])),
-        (64, 0xAAAA_AAAA_AAAA_AAAA, Ok([0, 60, 1])),
-        (64, 0x8000_0000_0000_0001, Ok([1, 1, 1])),
-        (64, 5, Err(No(3))),
-        (32, 0xFFFF_FFFF, Err(No(3))),
-        (64, 0x5555_5555_5555_5555, Ok([0, 60, 0])),
+        (0xFF, 64, Ok([1, 7, 0])),
+        (0x1_0000_00FF, 32, Ok([0, 7, 0])),
+        (0xAAAA_AAAA_AAAA_AAAA, 64, Ok([0, 60, 1])),
+        (0x8000_0000_0000_0001, 64, Ok([1, 1, 1])),
+        (5, 64, Err(No(3))),
+        (0xFFFF_FFFF, 32, Err(No(3))),
+        (0x5555_5555_5555_5555, 64, Ok([0, 60, 0])),
     ];
-    for (width, value, answer) in examples {
+    for (value, width, answer) in examples {
         assert_eq!(encode_logical_imm(value, width), answer);
         assert_eq!(rust::encode_logical_imm(value, width), Ok(answer.ok()));
     }
@@ -53,7 +71,7 @@ fn moves_of_the_batch_example() {
     assert_eq!(move_words(u64::MAX, 3), Ok(vec![0x9280_0003]));
     assert_eq!(rust::encode_mov_sequence64(u64::MAX, 3, 1), []);
     assert_eq!(move_words(0, 31), Err(No(2)));
-    assert_eq!(patchable_words(64, 0, 31), Err(No(2)));
+    assert_eq!(patchable_words(0, 64, 31), Err(No(2)));
 }
 
 #[test]
@@ -84,9 +102,9 @@ fn example_12_ldr_and_adr() {
 
 #[test]
 fn run_only_small_immediates() {
-    assert_eq!(encode_float(64, 1f64.to_bits()), Ok(112));
+    assert_eq!(encode_float(1f64.to_bits(), 64), Ok(112));
     assert_eq!(rust::encode_fp64_to_imm8(1f64.to_bits()), 112);
-    assert_eq!(encode_float(64, 0), Err(No(3)));
+    assert_eq!(encode_float(0, 64), Err(No(3)));
     assert_eq!(encode_byte_mask(0xFF00_0000_0000_00FF), Ok(129));
     assert_eq!(rust::encode_imm64_byte_mask_to_imm8(0xFF00_0000_0000_00FF), 129);
 }
@@ -132,7 +150,7 @@ fn a_base_is_taken_exactly_where_the_field_stands() {
 #[test]
 fn the_three_float_widths_spell_the_same_number() {
     for imm8 in 0..256 {
-        let [half, single, double] = [16, 32, 64].map(|width| expand_float(width, imm8).unwrap());
+        let [half, single, double] = [16, 32, 64].map(|width| expand_float(imm8, width).unwrap());
         let number = f64::from_bits(double);
         assert_eq!(f64::from(f32::from_bits(single as u32)), number);
         let power = 2f64.powi((half >> 10 & 31) as i32 - 15);

@@ -13,7 +13,7 @@ fn exponent_bits(width: u32) -> Result<u32, No> {
 }
 
 /// Arm's VFPExpandImm: sign, then bit 6 inverted, bit 6 repeated, bits 5 and 4, then the fraction.
-fn expand(width: u32, exponent: u32, imm8: u32) -> u64 {
+fn expand(imm8: u32, width: u32, exponent: u32) -> u64 {
     let repeated = |bit: u32, times: u32| u64::from(bit) * ((1 << times) - 1);
     let (sign, b, cd, efgh) = (imm8 >> 7, imm8 >> 6 & 1, imm8 >> 4 & 3, imm8 & 15);
     let exp = u64::from(1 - b) << (exponent - 1) | repeated(b, exponent - 3) << 2 | u64::from(cd);
@@ -22,20 +22,20 @@ fn expand(width: u32, exponent: u32, imm8: u32) -> u64 {
 }
 
 /// The value of an 8-bit float at one of the three widths.
-pub fn expand_float(width: u32, imm8: u32) -> Result<u64, No> {
-    Ok(expand(width, exponent_bits(width)?, imm8))
+pub fn expand_float(imm8: u32, width: u32) -> Result<u64, No> {
+    Ok(expand(imm8, width, exponent_bits(width)?))
 }
 
 /// Order 1, 3. Bits above the width are ignored.
-pub fn encode_float(width: u32, value: u64) -> Result<u32, No> {
+pub fn encode_float(value: u64, width: u32) -> Result<u32, No> {
     let exponent = exponent_bits(width)?;
     let low = if width == 64 { value } else { value % (1 << width) };
-    (0..256).find(|imm8| expand(width, exponent, *imm8) == low).ok_or(No(3))
+    (0..256).find(|imm8| expand(*imm8, width, exponent) == low).ok_or(No(3))
 }
 
 /// Whether some 8-bit float spells the value.
-pub fn is_float(width: u32, value: u64) -> bool {
-    encode_float(width, value).is_ok()
+pub fn is_float(value: u64, width: u32) -> bool {
+    encode_float(value, width).is_ok()
 }
 
 /// Byte i is bit i. Refusal 3: a byte is neither 00 nor FF.

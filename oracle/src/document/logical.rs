@@ -69,7 +69,7 @@ pub fn base(operation: u32, width: u32) -> Option<u32> {
 }
 
 /// Order 7, 1, 2, 3.
-fn logical_word(operation: u32, width: u32, value: u64, rn: u32, rd: u32) -> Result<u32, No> {
+fn logical_word(operation: u32, value: u64, width: u32, rn: u32, rd: u32) -> Result<u32, No> {
     let base = base(operation, width).ok_or(No(7))?;
     check_width(width)?;
     if rn > 31 || rd > 31 {
@@ -83,10 +83,11 @@ fn logical_word(operation: u32, width: u32, value: u64, rn: u32, rd: u32) -> Res
 pub fn put_logical_word(
     run: &mut [u32],
     position: u64,
-    (operation, width): (u32, u32),
+    operation: u32,
     value: u64,
+    width: u32,
     (rn, rd): (u32, u32),
 ) -> Result<u64, No> {
-    let word = logical_word(operation, width, value, rn, rd)?;
+    let word = logical_word(operation, value, width, rn, rd)?;
     words::put(run, position, &[word])
 }

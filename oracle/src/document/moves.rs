@@ -71,7 +71,7 @@ pub fn encode_mov_sequence64(
 }
 
 /// Four words at 64, two at 32. Order 1, 2.
-pub fn patchable_words(size: u32, value: u64, rd: u32) -> Result<Vec<u32>, No> {
+pub fn patchable_words(value: u64, size: u32, rd: u32) -> Result<Vec<u32>, No> {
     let (movz, movk, count) = match size {
         32 => (MOVZ_32, MOVK_32, 2),
         64 => (MOVZ, MOVK, 4),
@@ -89,9 +89,9 @@ pub fn patchable_words(size: u32, value: u64, rd: u32) -> Result<Vec<u32>, No> {
 pub fn encode_patchable_mov_imm(
     run: &mut [u32],
     position: u64,
-    size: u32,
     value: u64,
+    size: u32,
     rd: u32,
 ) -> Result<u64, No> {
-    words::put(run, position, &patchable_words(size, value, rd)?)
+    words::put(run, position, &patchable_words(value, size, rd)?)
 }

@@ -59,7 +59,7 @@ fn words(list: &mut Vec<Request>) {
             for value in [0xFF, 0xAAAA_AAAA_AAAA_AAAA, 5] {
                 for [rn, rd] in registers {
                     for [len, position] in [[2, 0], [1, 1]] {
-                        let args = [operation, width, value, rn, rd, len, position];
+                        let args = [operation, value, width, rn, rd, len, position];
                         list.push(Request::new(LOGICAL_WORD, &args));
                     }
                 }
@@ -94,5 +94,5 @@ fn any(entry: u64, random: &mut Random) -> Request {
     let (rn, rd) = (register(), register());
     let operation = if random.below(16) == 0 { random.number() } else { random.below(4) };
     let [len, position] = room(random);
-    Request::new(entry, &[operation, width, value, rn, rd, len, position])
+    Request::new(entry, &[operation, value, width, rn, rd, len, position])
 }

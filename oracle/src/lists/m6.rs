@@ -14,18 +14,18 @@ fn requests() -> Vec<Request> {
     for size in [32, 64].into_iter().chain(WRONG_WIDTHS) {
         for rd in [0, 1, 30, 31, 32, 63, U32] {
             for [len, position] in [[4, 0], [1, 0]] {
-                list.push(Request::new(PATCHABLE_MOVE, &[size, value, rd, len, position]));
+                list.push(Request::new(PATCHABLE_MOVE, &[value, size, rd, len, position]));
             }
         }
     }
     for size in [32, 64] {
         for len in 0..=8 {
             for position in (0..=len + 1).chain([1 << 32, u64::MAX - 1, u64::MAX]) {
-                list.push(Request::new(PATCHABLE_MOVE, &[size, value, 7, len, position]));
+                list.push(Request::new(PATCHABLE_MOVE, &[value, size, 7, len, position]));
             }
         }
         for value in [0, U32, U32 + 1, u64::MAX, !U32] {
-            list.push(Request::new(PATCHABLE_MOVE, &[size, value, 9, 4, 0]));
+            list.push(Request::new(PATCHABLE_MOVE, &[value, size, 9, 4, 0]));
         }
     }
     list.extend((0..300).map(|_| any(PATCHABLE_MOVE, &mut random)));
@@ -37,5 +37,5 @@ fn any(entry: u64, random: &mut Random) -> Request {
     let value = if random.below(4) == 0 { random.number() } else { random.value() };
     let rd = if random.below(8) == 0 { random.number() } else { random.below(31) };
     let [len, position] = room(random);
-    Request::new(entry, &[size, value, rd, len, position])
+    Request::new(entry, &[value, size, rd, len, position])
 }

@@ -16,8 +16,8 @@ pub const LIST: List = List {
 };
 
 /// The value that an 8-bit float spells at one of the three widths.
-fn float(width: u64, imm8: u64) -> u64 {
-    immediates::expand_float(width as u32, imm8 as u32).unwrap_or_default()
+fn float(imm8: u64, width: u64) -> u64 {
+    immediates::expand_float(imm8 as u32, width as u32).unwrap_or_default()
 }
 
 /// The value that a byte mask spells.
@@ -30,8 +30,8 @@ fn requests() -> Vec<Request> {
     let mut list = vec![];
     for imm8 in 0..256 {
         for (width, is_float) in [(16, IS_FP16), (32, IS_FP32), (64, IS_FP64)] {
-            for value in near(float(width, imm8), &float_bits(width, imm8)) {
-                list.push(Request::new(ENCODE_FLOAT, &[width, value]));
+            for value in near(float(imm8, width), &float_bits(imm8, width)) {
+                list.push(Request::new(ENCODE_FLOAT, &[value, width]));
                 list.push(Request::new(is_float, &[value]));
             }
         }
@@ -43,7 +43,7 @@ fn requests() -> Vec<Request> {
     }
     for value in [0, 1, 0x3C00, 0x3F80_0000, U32, 0x3FF0_0000_0000_0000, u64::MAX] {
         let widths = [16, 32, 64].into_iter().chain(WRONG_WIDTHS);
-        list.extend(widths.map(|width| Request::new(ENCODE_FLOAT, &[width, value])));
+        list.extend(widths.map(|width| Request::new(ENCODE_FLOAT, &[value, width])));
     }
     for entry in LIST.entries {
         list.extend((0..100).map(|_| any(*entry, &mut random)));
@@ -58,7 +58,7 @@ fn near(value: u64, bits: &[u64]) -> Vec<u64> {
 }
 
 /// The bits of a float above the fraction's zeros, and two of these that move with the number.
-fn float_bits(width: u64, imm8: u64) -> Vec<u64> {
+fn float_bits(imm8: u64, width: u64) -> Vec<u64> {
     let zeros = [6, 19, 48][(width.ilog2() - 4) as usize];
     let some = (0..2).map(|part| (imm8 + part * zeros / 2) % zeros);
     (zeros..width).chain(some).collect()
@@ -72,7 +72,7 @@ fn any(entry: u64, random: &mut Random) -> Request {
         _ => random.one_of(&[16, 32, 64]),
     };
     let imm8 = random.below(256);
-    let spelled = if entry < ENCODE_BYTE_MASK { float(width, imm8) } else { mask(imm8) };
+    let spelled = if entry < ENCODE_BYTE_MASK { float(imm8, width) } else { mask(imm8) };
     let value = match random.below(8) {
         0 => random.value(),
         1 | 2 => spelled ^ 1 << random.below(64),
@@ -80,8 +80,8 @@ fn any(entry: u64, random: &mut Random) -> Request {
         _ => spelled,
     };
     match entry {
-        ENCODE_FLOAT if random.below(16) == 0 => Request::new(entry, &[random.number(), value]),
-        ENCODE_FLOAT => Request::new(entry, &[width, value]),
+        ENCODE_FLOAT if random.below(16) == 0 => Request::new(entry, &[value, random.number()]),
+        ENCODE_FLOAT => Request::new(entry, &[value, width]),
         _ => Request::new(entry, &[value]),
     }
 }

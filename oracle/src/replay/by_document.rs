@@ -71,10 +71,10 @@ fn modules_3_and_4(r: &Request) -> Option<Answer> {
         ENCODE_LOGICAL => numbers(logical::encode_logical_imm(r.args[0], r.low(1))),
         LOGICAL_WORD => {
             let mut run = r.run(5);
-            let operation = (r.low(0), r.low(1));
+            let (operation, value, width) = (r.low(0), r.args[1], r.low(2));
             let registers = (r.low(3), r.low(4));
             let position =
-                logical::put_logical_word(&mut run, r.args[6], operation, r.args[2], registers);
+                logical::put_logical_word(&mut run, r.args[6], operation, value, width, registers);
             Answer::wrote(position, run)
         }
         DECODE_LOGICAL => wide(logical::decode_logical_imm(fields, r.low(3))),
@@ -93,8 +93,8 @@ fn modules_5_and_6(r: &Request) -> Option<Answer> {
         COUNT_ZERO_HALF_WORDS => numbers(Ok([moves::count_zero_half_words_64(r.args[0])])),
         PATCHABLE_MOVE => {
             let mut run = r.run(3);
-            let (size, value, rd) = (r.low(0), r.args[1], r.low(2));
-            let position = moves::encode_patchable_mov_imm(&mut run, r.args[4], size, value, rd);
+            let (value, size, rd) = (r.args[0], r.low(1), r.low(2));
+            let position = moves::encode_patchable_mov_imm(&mut run, r.args[4], value, size, rd);
             Answer::wrote(position, run)
         }
         _ => return None,
@@ -126,10 +126,10 @@ fn module_7(r: &Request) -> Option<Answer> {
 fn module_8(r: &Request) -> Option<Answer> {
     let value = r.args[0];
     Some(match r.entry {
-        ENCODE_FLOAT => numbers(immediates::encode_float(r.low(0), r.args[1]).map(|x| [x])),
-        IS_FP16 => Answer::yes_no(immediates::is_float(16, value)),
-        IS_FP32 => Answer::yes_no(immediates::is_float(32, value)),
-        IS_FP64 => Answer::yes_no(immediates::is_float(64, value)),
+        ENCODE_FLOAT => numbers(immediates::encode_float(value, r.low(1)).map(|x| [x])),
+        IS_FP16 => Answer::yes_no(immediates::is_float(value, 16)),
+        IS_FP32 => Answer::yes_no(immediates::is_float(value, 32)),
+        IS_FP64 => Answer::yes_no(immediates::is_float(value, 64)),
         ENCODE_BYTE_MASK => numbers(immediates::encode_byte_mask(value).map(|x| [x])),
         IS_BYTE_MASK => Answer::yes_no(immediates::is_byte_mask(value)),
         _ => return None,

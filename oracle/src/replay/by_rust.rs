@@ -95,10 +95,10 @@ fn module_3(r: &Request) -> Heard {
         }),
         LOGICAL_WORD => {
             // The original takes its base words from files that are not here.
-            let Some(base) = logical::base(r.low(0), r.low(1)) else {
+            let Some(base) = logical::base(r.low(0), r.low(2)) else {
                 return Lacks;
             };
-            let found = rust::encode_logical_imm(r.args[2], r.low(1));
+            let found = rust::encode_logical_imm(r.args[1], r.low(2));
             unless_panics(found, |fields| match fields {
                 Some(fields) => {
                     placed(r, 5, &[rust::logical_word(base, fields, r.low(3), r.low(4))])
@@ -115,12 +115,12 @@ fn modules_5_and_6(r: &Request) -> Heard {
         MOVE => placed(r, 2, &rust::encode_mov_sequence64(r.args[0], r.low(1), 1)),
         COUNT_ZERO_HALF_WORDS => number(rust::count_zero_half_words_64(r.args[0])),
         PATCHABLE_MOVE => {
-            let is_64bit = match r.low(0) {
+            let is_64bit = match r.low(1) {
                 32 => false,
                 64 => true,
                 _ => return Lacks,
             };
-            placed(r, 3, &rust::encode_patchable_mov_imm(is_64bit, r.args[1], r.low(2)))
+            placed(r, 3, &rust::encode_patchable_mov_imm(r.args[0], is_64bit, r.low(2)))
         }
         _ => Lacks,
     }
@@ -149,7 +149,7 @@ fn module_7(r: &Request) -> Heard {
 
 fn module_8(r: &Request) -> Heard {
     match r.entry {
-        ENCODE_FLOAT if r.low(0) == 64 => number(rust::encode_fp64_to_imm8(r.args[1])),
+        ENCODE_FLOAT if r.low(1) == 64 => number(rust::encode_fp64_to_imm8(r.args[0])),
         IS_FP16 => yes_no(rust::is_fp16_imm8(r.low(0))),
         IS_FP32 => yes_no(rust::is_fp32_imm8(r.low(0))),
         IS_FP64 => yes_no(rust::is_fp64_imm8(r.args[0])),

@@ -68,14 +68,14 @@ pub fn class(r: &Request, document: &Answer, rust: &Heard) -> Option<Class> {
         (LSB_MASK, Heard::Lacks) => Some(MaskAbove64),
         (_, Heard::Lacks) => Some(Added),
         (SHIFT_MAP, Heard::Panics) => known(r.low(0) > 15 && no(7), ShiftMapAbove15),
-        (ENCODE_LOGICAL, _) => known(wrong_width(r) && no(1), LogicalWidth),
-        (LOGICAL_WORD, _) if wrong_width(r) => known(no(1), LogicalWidth),
+        (ENCODE_LOGICAL, _) => known(wrong(r.low(1)) && no(1), LogicalWidth),
+        (LOGICAL_WORD, _) if wrong(r.low(2)) => known(no(1), LogicalWidth),
         (LOGICAL_WORD, Heard::Says(rust)) => known(no(2) && masks(r, rust), LogicalRegister),
         (MOVE, Heard::Says(rust)) => move_class(r, document, rust),
         (PATCHABLE_MOVE, Heard::Says(_)) => known(r.low(2) > 30 && no(2), PatchableRegister),
         (DISP_IMM, Heard::Says(rust)) => disp_class(r, document, rust),
         (DISP_TARGET, _) => target_class(r, document, rust),
-        (ENCODE_FLOAT, _) => known(no(3) && !rust::is_fp64_imm8(r.args[1]), Untested),
+        (ENCODE_FLOAT, _) => known(no(3) && !rust::is_fp64_imm8(r.args[0]), Untested),
         (ENCODE_BYTE_MASK, _) => known(no(3) && !rust::is_byte_mask_imm(r.args[0]), Untested),
         (LMH | PICK_FP, Heard::Spoils(rust)) => known(rust == document, WritesBeforeRefusal),
         (PICK_FP, _) => known(used_row(r) > 5 && no(7), PickRowAbove5),
@@ -83,9 +83,9 @@ pub fn class(r: &Request, document: &Answer, rust: &Heard) -> Option<Class> {
     }
 }
 
-/// Both entries that take a width have it as their second argument.
-fn wrong_width(r: &Request) -> bool {
-    !matches!(r.low(1), 32 | 64)
+/// Whether a width is none that a logical immediate has.
+fn wrong(width: u32) -> bool {
+    !matches!(width, 32 | 64)
 }
 
 fn used_row(r: &Request) -> u32 {
