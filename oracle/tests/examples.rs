@@ -110,7 +110,7 @@ fn run_only_small_immediates() {
 }
 
 #[test]
-fn edges_of_the_open_points() {
+fn edges_that_document_01_does_not_list() {
     assert_eq!(rust::encode_logical_imm(1, 2), Ok(Some([0, 60, 0])));
     assert_eq!(rust::encode_logical_imm(0xF0, 16), Ok(Some([0, 35, 12])));
     assert_eq!(rust::encode_mov_sequence64(0, 32, 1), [0xD280_0020]);

@@ -9,14 +9,16 @@ use crate::rust::{self, Panics};
 pub enum Heard {
     /// It answers; a refusal has the number that document 01 gives to its reason.
     Says(Answer),
-    /// It refuses so, but has written its outputs before.
-    Spoils(Answer),
+    /// It refuses with this number, but has written these outputs before.
+    Spoils(u32, Vec<u32>),
+    /// Its arithmetic overflows: it answers so where it wraps around, and else panics.
+    Overflows(Option<Answer>),
     Panics,
     /// It has no such entry, or cannot be asked this: there is no room in the run, for one.
     Lacks,
 }
 
-use Heard::{Lacks, Says, Spoils};
+use Heard::{Lacks, Overflows, Says, Spoils};
 
 pub fn heard(r: &Request) -> Heard {
     match r.entry / 16 {
@@ -64,10 +66,11 @@ fn refused(r: &Request, i: usize, number: u32) -> Heard {
 fn module_1(r: &Request) -> Heard {
     match r.entry {
         BIT_TEST => yes_no(rust::bit_test(r.low(0), r.low(1))),
-        // Above 64 its subtraction overflows.
         LSB_MASK if r.low(0) <= 64 => {
             unless_panics(rust::lsb_mask(r.low(0)), |mask| Says(Answer::wide(mask)))
         }
+        // Its subtraction from 64 overflows.
+        LSB_MASK => Overflows(rust::lsb_mask(r.low(0)).ok().map(Answer::wide)),
         _ => Lacks,
     }
 }
@@ -94,7 +97,8 @@ fn module_3(r: &Request) -> Heard {
             Says(answer.unwrap_or(Answer::no(3)))
         }),
         LOGICAL_WORD => {
-            // The original takes its base words from files that are not here.
+            // The original has its base words, and the registers' places, in files that are not
+            // here: both are document 01's.
             let Some(base) = logical::base(r.low(0), r.low(2)) else {
                 return Lacks;
             };
@@ -164,7 +168,7 @@ fn module_9(r: &Request) -> Heard {
     match r.entry {
         LMH => match rust::encode_lmh(a, b) {
             (_, None) => Says(Answer::no(7)),
-            (false, Some(_)) => Spoils(Answer::no(9)),
+            (false, Some(outputs)) => Spoils(9, outputs.to_vec()),
             (true, Some(outputs)) => Says(Answer::numbers(&outputs.map(u64::from))),
         },
         SIZE_OP => {
@@ -182,7 +186,7 @@ fn module_9(r: &Request) -> Heard {
 fn picked_answer(picked: rust::Picked) -> Heard {
     match picked {
         (_, None) => Says(Answer::no(3)),
-        (None, Some(_)) => Spoils(Answer::no(10)),
+        (None, Some(size)) => Spoils(10, vec![size]),
         (Some(word), Some(size)) => Says(Answer::numbers(&[word.into(), size.into()])),
     }
 }

@@ -13,6 +13,7 @@ pub mod answer;
 pub mod by_document;
 pub mod by_rust;
 pub mod classes;
+pub mod departures;
 pub mod request;
 
 use answer::Answer;
