@@ -27,10 +27,10 @@ pub fn run(samples: usize) -> bool {
 
 /// One judge's verdict on the lines, batch by batch. A missing tool or script is said and is no failure.
 fn judged(script: &str, what: &str, lines: &[String]) -> bool {
-    let path = Path::new(env!("CARGO_MANIFEST_DIR")).join("../../host-tests").join(script);
+    let path = Path::new(env!("CARGO_MANIFEST_DIR")).join("../../judges").join(script);
     println!("judges: {} {what}", lines.len());
     if !path.exists() {
-        println!("  skipped: host-tests/{script} is not there");
+        println!("  skipped: judges/{script} is not there");
         return true;
     }
     lines.chunks(BATCH).all(|batch| match ask(&path, &batch.concat()) {
