@@ -143,24 +143,12 @@ fn report(times: &[[Vec<f64>; 2]], totals: &[(usize, usize, u64)]) {
         .iter()
         .map(|[moves, fields]| [median(moves.clone()), median(fields.clone())])
         .collect();
-    let nanoseconds = |seconds: f64| seconds * 1e9 / VALUES as f64;
-    println!("{:24} {:>12} {:>12} {:>12}", "ns a value, median of", "moves", "fields", "both");
-    for ((name, _, _), [moves, fields]) in SIDES.iter().zip(&medians) {
-        println!(
-            "{name:24} {:12.2} {:12.2} {:12.2}",
-            nanoseconds(*moves),
-            nanoseconds(*fields),
-            nanoseconds(moves + fields)
-        );
-    }
+    println!("the median time of the C entries, divided by that of");
+    println!("{:24} {:>8} {:>8} {:>8}", "", "moves", "fields", "both");
     let [moves, fields] = medians[0];
     for ((name, _, _), [m, f]) in SIDES.iter().zip(&medians).skip(1) {
-        println!(
-            "the C entries take {:.2} of {name} (moves {:.2}, fields {:.2})",
-            (moves + fields) / (m + f),
-            moves / m,
-            fields / f
-        );
+        let (both, all) = (moves + fields, m + f);
+        println!("{name:24} {:8.2} {:8.2} {:8.2}", moves / m, fields / f, both / all);
     }
     for (side, (name, _, _)) in SIDES.iter().enumerate() {
         let (_, words, sum) =
