@@ -39,7 +39,7 @@ use Rattle.host.proofs.Reading.{Small, told-reads, extended-mag}
 -- four words at most, or the number of a refusal
 abbrev pub Sane : Said (List ℕ) → Type 0
 Sane (ok ws) = length ws ≤ 4
-Sane (no n) = (0 < n) × (n < 2 ^ 8)
+Sane (no n) = (1 ≤ n) × (n ≤ 10)
 
 put-small : (l : List ℕ) (at : ℕ) (x : Said (List ℕ)) → Sane x → Small (counted at (putBytesOf l at x .0))
 unfolding putBytesOf
@@ -87,7 +87,7 @@ module _ (l : List ℕ) (at n : ℕ) (l′ : List ℕ) where
   stands x h e z = go x h (putBytesOf l at x) refl (reads x h e) (left x e)
     where
       go : (x : Said (List ℕ)) → Sane x → (y : Said ℕ × List ℕ) → putBytesOf l at x ≡ y → Reads n (counted at (y .0)) → l′ ≡ y .1 → (vs : List ℕ) × (x ≡ ok vs) × Stands vs
-      go x h (no m, k) q r s = absurd (omega (arith, r .0, r .1))
+      go x h (no m, k) q r s = absurd (omega (arith, r .0, r .2))
       go (no m) h (ok p, k) q r s = absurd (not-done l at m p q)
       go (ok vs) h (ok p, k) q r s =
           let d = bytes-done l at k vs p (sym q) in
@@ -103,11 +103,11 @@ module _ (l : List ℕ) (at n : ℕ) (l′ : List ℕ) where
 
 -- ---- each entry's words are four at most, and its refusals are document 01's
 
-pub move-sane : (rd v : ℕ) → Sane (movSaid rd v)
-move-sane rd v = mov-by rd v Sane (λ h. omega arith) (λ l. mov-some rd v .most)
+pub move-sane : (v rd : ℕ) → Sane (movSaid v rd)
+move-sane v rd = mov-by v rd Sane (λ h. omega arith) (λ l. mov-some v rd .most)
 
-pub patchable-sane : (size v rd : ℕ) → Sane (patchSaid size v rd)
-patchable-sane size v rd = patch-by size v rd Sane (omega arith) (omega arith) (λ e l. omega (arith, patch64-length v rd)) (λ e l. omega (arith, patch32-length v rd))
+pub patchable-sane : (v size rd : ℕ) → Sane (patchSaid v size rd)
+patchable-sane v size rd = patch-by v size rd Sane (omega arith) (omega arith) (λ e l. omega (arith, patch64-length v rd)) (λ e l. omega (arith, patch32-length v rd))
 
 pub displacement-sane : (n b : ℕ) (d : ℤ) → Sane (dispSaid n b d)
 displacement-sane n b d = go (says n b d)
@@ -120,7 +120,7 @@ displacement-sane n b d = go (says n b d)
     go (word h free on r) = omega arith
 
 -- the encoder's numbers are 1 and 3
-number-sane : (w v k : ℕ) → Encoded w v (no k) → (0 < k) × (k < 2 ^ 8)
+number-sane : (w v k : ℕ) → Encoded w v (no k) → (1 ≤ k) × (k ≤ 10)
 number-sane w v k h = ⊎-elim (λ a. omega (arith, a .0)) (λ b. omega (arith, b .0)) h
 
 pub word-sane : (operation w v rn rd : ℕ) (a : Said LogicalImm) → Encoded w v a → Sane (wordOf operation w rn rd a)

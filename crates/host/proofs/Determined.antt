@@ -1,13 +1,8 @@
 -- Each entry's contract allows one answer, and one run of bytes after it. Assumes nothing.
-use mathlib.Core.Path.{_≡_, subst}
-use Prim.Native.Nat.{ℕ}
+use mathlib.Core.Path.{refl}
 use denote.Ref.{now}
-use Rattle.words.specs.Said.{Said}
 use Rattle.words.proofs.Contracts.{OneAnswer, OneWrite, one-answer, one-pair}
-use Rattle.logical.specs.declared.LogicalImm.{LogicalImm}
-use Rattle.logical.proofs.Laws.{encoded-one}
-use Rattle.logical_words.proofs.Word.{word-computed}
-use Rattle.host.specs.Number.{told, spelled}
+use Rattle.logical.proofs.Laws.{one-from}
 use Rattle.host.proofs.vaimalofo_move.Reads as move
 use Rattle.host.proofs.vaimalofo_patchable_move.Reads as patchable-move
 use Rattle.host.proofs.vaimalofo_logical_fields.Reads as logical-fields
@@ -23,11 +18,10 @@ pub patchable-move-determined : OneWrite patchable-move.Post (λ k x. now (x .0)
 patchable-move-determined k a r s x y p q = one-pair p q
 
 pub logical-fields-determined : OneAnswer logical-fields.Post
-logical-fields-determined k a r s x y p q =
-    one-answer (p .2) (subst (λ (b : Said LogicalImm). s ≡ told (spelled b)) (encoded-one _ _ (q .0) (p .0) (q .1) (p .1)) (q .2))
+logical-fields-determined k a r s x y p q = one-from p q
 
 pub logical-word-determined : OneWrite logical-word.Post (λ k x. now (x .0))
-logical-word-determined k a r s x y p q = one-pair (word-computed _ _ _ _ _ _ p) (word-computed _ _ _ _ _ _ q)
+logical-word-determined k a r s x y p q = one-pair (one-from p q) refl
 
 pub displacement-determined : OneWrite displacement.Post (λ k x. now (x .0))
 displacement-determined k a r s x y p q = one-pair p q

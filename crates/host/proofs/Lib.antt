@@ -1,5 +1,6 @@
--- How the one number is read, that each contract allows one answer, and the laws below them.
+-- How the one number is read, what a call leaves and what Arm makes of it, that each contract allows one answer, and the laws below them.
 pub mod Laws
 pub mod Reading
 pub mod Demands
+pub mod Boundary
 pub mod Determined

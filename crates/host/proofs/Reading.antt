@@ -18,7 +18,7 @@ use Rattle.host.specs.Number.{told, Reads}
 
 abbrev pub Small : Said ℤ → Type 0
 Small (ok v) = mag v < 2 ^ 55
-Small (no n) = (0 < n) × (n < 2 ^ 8)
+Small (no n) = (1 ≤ n) × (n ≤ 10)
 
 pub told-reads : (a : Said ℤ) → Small a → Reads (told a) a
 told-reads (ok v) h =
@@ -26,7 +26,7 @@ told-reads (ok v) h =
     (omega arith, ap (λ (x : ℕ). toZ w64 (SignExtend 56 x)) up ∙ ap (toZ w64) (extend 56 (omega arith) (omega arith) v h) ∙ toZ-ofZ {w = w64} (record { sfits = omega arith }))
 told-reads (no n) h =
     let none : n / 2 ^ 8 ≡ 0 = omega arith in
-    (h .0, omega arith, ap (λ (x : ℕ). toZ w64 (SignExtend 56 x)) none)
+    (h .0, h .1, omega arith, ap (λ (x : ℕ). toZ w64 (SignExtend 56 x)) none)
 
 -- a number of t bits, sign-extended, is read as one from - 2 ^ (t - 1) up to below 2 ^ (t - 1)
 pub extended-mag : (t v : ℕ) → 1 ≤ t → t ≤ 64 → v < 2 ^ t → mag (toZ w64 (SignExtend t v)) < 2 ^ (t - 1)

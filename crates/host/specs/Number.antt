@@ -1,12 +1,14 @@
 -- The one number that every entry of the host answers, and how it is read. Assumes nothing.
 use mathlib.Core.Path.{_≡_}
 use mathlib.Core.List.{List}
-use Prim.Native.Nat.{ℕ, _+_, _-_, _*_, _/_, _%_, _^_, _<_}
-use lib.IntN.{ℤ, pos}
+use Prim.Native.Nat.{ℕ, _+_, _-_, _*_, _/_, _%_, _^_, _≤_}
+use lib.IntN.{ℤ, pos, natAbs}
+use lib.Seq.{slice}
 use mir.Syntax.{w64}
 use mir.Val.{toZ, ofZ}
 use Rattle.arm.specs.Bits.{SignExtend}
 use Rattle.words.specs.Said.{Said, ok, no}
+use Rattle.writers.specs.Put.{wordsIn}
 use Rattle.logical.specs.Answer.{Encoded}
 use Rattle.logical.specs.declared.LogicalImm.{LogicalImm}
 
@@ -22,10 +24,10 @@ refusalIn x = x % 2 ^ 8
 abbrev pub valueIn : ℕ → ℤ
 valueIn x = toZ w64 (SignExtend 56 (x / 2 ^ 8))
 
--- a host reads from x what was said: a value, and no refusal; or a refusal, and the value 0
+-- a host reads from x what was said: a value, and no refusal; or a refusal, 1 to 10, and the value 0
 abbrev pub Reads : ℕ → Said ℤ → Type 0
 Reads x (ok v) = (refusalIn x ≡ 0) × (valueIn x ≡ v)
-Reads x (no n) = (0 < n) × (refusalIn x ≡ n) × (valueIn x ≡ pos 0)
+Reads x (no n) = (1 ≤ n) × (n ≤ 10) × (refusalIn x ≡ n) × (valueIn x ≡ pos 0)
 
 -- ---- the values
 
@@ -37,6 +39,10 @@ counted at (no n) = no n
 -- the number of what a writer says, and the bytes as they then are
 abbrev pub hostOf : ℕ → Said ℕ × List ℕ → ℕ × List ℕ
 hostOf at (x, bs) = (told (counted at x), bs)
+
+-- the words that a host finds in the bytes after a call: from the position on, as many as the answer x says
+abbrev pub wordsFrom : (x at : ℕ) → List ℕ → List ℕ
+wordsFrom x at bs = wordsIn (slice (at * 4) ((at + natAbs (valueIn x)) * 4) bs)
 
 -- of fields: N * 65536 + S * 256 + R
 abbrev pub spelled : Said LogicalImm → Said ℤ

@@ -1,6 +1,6 @@
 -- What is asked of patchable moves: the words leave the asked value, which at 32 is the low 32 bits with the upper half clear, and nothing
 -- else changed, from any old content; and how many there are. Assumes nothing.
-use mathlib.Core.Path.{_≡_, _∙_}
+use mathlib.Core.Path.{_≡_, sym, _∙_}
 use mathlib.Core.List.{List}
 use mathlib.Core.Option.{some}
 use Prim.Native.Nat.{ℕ, _+_, _/_, _%_, _^_, _<_}
@@ -20,6 +20,15 @@ use Rattle.patchable_moves.proofs.Lengths.{patch-by, patch64-length, pa
 -- ---- the asked value
 
 module _ (v size rd : ℕ) (v-is : v < 2 ^ 64) (R : Regs) where
+  -- the words that are said
+  pub patch-said : (ws : List ℕ) → patchSaid v size rd ≡ ok ws → run ws R ≡ some (write R rd (v % 2 ^ size))
+  patch-said ws =
+      patch-by v size rd (λ x. x ≡ ok ws → run ws R ≡ some (write R rd (v % 2 ^ size)))
+      (λ e. absurd (not-both (sym e)))
+      (λ e. absurd (not-both (sym e)))
+      (λ s l e. let same : patch64 v rd ≡ ws = cc in rw (← same, s, mod-eq-of-lt v-is) (patch64-run rd l v v-is R))
+      (λ s l e. let same : patch32 v rd ≡ ws = cc in rw (← same, s) (patch32-run rd l v R))
+
   -- in the run after a call that was not turned down
   pub patched : (ws : List ℕ) (at p : ℕ) (ws′ : List ℕ) → Put ws at p ws′ (patchSaid v size rd) → Leaves at p ws′ R rd (v % 2 ^ size)
   patched ws at p ws′ =

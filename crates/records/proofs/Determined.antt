@@ -96,7 +96,7 @@ bare-tail count offset = go (eqb count 0) (ltb count 12)
 
 pub tail-determined : OneAnswer tail.Post
 tail-determined k a r s x y p q =
-    plain-all r s (bare-plain r (rw p (bare-tail _ _))) (bare-plain s (rw q (bare-tail _ _))) (one-answer p q)
+    plain-all r s (bare-plain r (rw p (bare-tail (a .0) (a .1 .0)))) (bare-plain s (rw q (bare-tail (a .0) (a .1 .0)))) (one-answer p q)
 
 -- ---- an input
 

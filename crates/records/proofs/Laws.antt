@@ -24,13 +24,13 @@ use Rattle.records.specs.Inputs.{endsAt}
 module _ (rd v : ℕ) where
   pub move-made : (f : Words) → _≡_ {A = Said Words} (ok f) (packed (movSaid v rd)) → OneLine (Says move rd v) (answer.Words f)
   move-made f h =
-      let e : _≡_ {A = Said (List ℕ)} (ok (listOf f)) (movSaid v rd) = ap listed h ∙ listed-packed (movSaid v rd) (mov-short rd v) in
+      let e : _≡_ {A = Said (List ℕ)} (ok (listOf f)) (movSaid v rd) = ap listed h ∙ listed-packed (movSaid v rd) (mov-short v rd) in
       let p : _≡_ {A = Said Words} (ok f) (ok (wordsOf (listOf f))) = h ∙ ap packed (sym e) in
       record { item = _; line = refl; plain = cc; says = ap wordsLine e }
 
   pub move-not : (r : Refusal) → _≡_ {A = Said Words} (no (numberOf r)) (packed (movSaid v rd)) → OneLine (Says move rd v) (answer.No r)
   move-not r h =
-      let e : _≡_ {A = Said (List ℕ)} (no (numberOf r)) (movSaid v rd) = ap listed h ∙ listed-packed (movSaid v rd) (mov-short rd v) in
+      let e : _≡_ {A = Said (List ℕ)} (no (numberOf r)) (movSaid v rd) = ap listed h ∙ listed-packed (movSaid v rd) (mov-short v rd) in
       record { item = _; line = refl; plain = tt; says = ap wordsLine e }
 
 -- ---- only a bad mark is the end

@@ -14,7 +14,7 @@ returns c =
     let m = c .before .before .before in
     let a = m .before .before .before .args in
     asked (a .bytes .now) (a .position) (c .before .before .put .ensures)
-    (ap listed (m .mov-words .ensures) ∙ listed-packed (movSaid (a .value) (a .register)) (mov-short (a .register) (a .value)))
+    (ap listed (m .mov-words .ensures) ∙ listed-packed (movSaid (a .value) (a .register)) (mov-short (a .value) (a .register)))
 
 pub vaimalofo-move-spec : {M : Type 1} → statement M
 vaimalofo-move-spec = tie.close (tie.spec (search needs) (search needs) (search needs) returns)

@@ -14,7 +14,7 @@ returns c =
     let m = c .before .before .before in
     let a = m .before .before .before .args in
     asked (a .bytes .now) (a .position) (c .before .before .put .ensures)
-    (ap listed (m .patchable-mov-words .ensures) ∙ listed-packed (patchSaid (a .value) (a .size) (a .register)) (patch-short (a .size) (a .value) (a .register)))
+    (ap listed (m .patchable-mov-words .ensures) ∙ listed-packed (patchSaid (a .value) (a .size) (a .register)) (patch-short (a .value) (a .size) (a .register)))
 
 pub vaimalofo-patchable-move-spec : {M : Type 1} → statement M
 vaimalofo-patchable-move-spec = tie.close (tie.spec (search needs) (search needs) (search needs) returns)

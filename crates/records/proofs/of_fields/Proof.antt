@@ -7,8 +7,9 @@ use Rattle.records.proofs.of_fields.Tie as tie
 
 returns : tie.Need-returns
 returns c =
-    let h = rw (c .before .f .given .1) at (c .before .before .before .encode-logical-imm .ensures) in
-    record { item = _; line = refl; plain = refl; says = (ok _, h, refl) }
+    let at = c .before .before in
+    let h = rw (at .f .given .1) at (at .before .before .encode-logical-imm .ensures) in
+    rw (c .three .ensures) (record { item = _; line = refl; plain = refl; says = (ok _, h, refl) })
 
 returns-2 : tie.Need-returns-2
 returns-2 c =
@@ -16,4 +17,4 @@ returns-2 c =
     record { item = _; line = refl; plain = tt; says = (no _, h, refl) }
 
 pub of-fields-spec : {M : Type 1} → statement M
-of-fields-spec = tie.close (tie.spec (search needs) (search needs) (search needs) returns returns-2)
+of-fields-spec = tie.close (tie.spec (search needs) (search needs) (search needs) (search needs) returns returns-2)
