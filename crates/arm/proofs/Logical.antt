@@ -3,9 +3,9 @@ use mathlib.Core.Path.{_≡_, refl}
 use mathlib.Core.Bool.{Bool, true, false, not, _&&_}
 use mathlib.Core.Logic.{_↔_}
 use mathlib.Core.Option.{some}
-use Prim.Native.Nat.{ℕ, zero, suc, _+_, _*_, _/_, _%_, _^_, _≤_, _<_}
+use Prim.Native.Nat.{ℕ, _+_, _*_, _/_, _%_, _^_, _≤_, _<_}
 use native.Mathlib.Omega.{arith}
-use borrow.Author.Tests.{eq-eqb, le-leb, lt-ltb, eqb-true, eqb-false, leb-true, ltb-true, not-true}
+use borrow.Author.Tests.{eq-eqb, le-leb, lt-ltb, eqb-true, leb-true, ltb-true, not-true, not-false}
 use lib.Dec.{eqb, leb, ltb}
 use Rattle.arm.specs.Bits.{bits}
 use Rattle.arm.specs.BitMasks.{Legal, len, esize}
@@ -20,23 +20,23 @@ module _ (w n s r : ℕ) where
   unfolding defined
   legal-defined h = rw (le-leb 1 (len n s) (h .some-len), lt-ltb (s % esize n s + 1) (esize n s) (h .not-all)) (narrow (eqb w 32) refl)
     where
-      narrow : (b : Bool) → eqb w 32 ≡ b → (not (b && eqb n 1) && true && true) ≡ true
+      narrow : (b : Bool) → eqb w 32 ≡ b → (not (b && not (eqb n 0)) && true && true) ≡ true
       narrow true e = rw (h .narrow (eqb-true w 32 e))
       narrow false e = refl
 
   defined-legal : n ≤ 1 → s ≤ 63 → r ≤ 63 → defined w n s ≡ true → Legal w n s r
   unfolding defined
   defined-legal hn hs hr t =
-      let outer = both (not (eqb w 32 && eqb n 1) && leb 1 (len n s)) (ltb (s % esize n s + 1) (esize n s)) t in
-      let inner = both (not (eqb w 32 && eqb n 1)) (leb 1 (len n s)) (outer .0) in
-      let not-one : w ≡ 32 → eqb n 1 ≡ false = λ q. rw (eq-eqb w 32 q) at (not-true (eqb w 32 && eqb n 1) (inner .0)) in
+      let outer = both (not (eqb w 32 && not (eqb n 0)) && leb 1 (len n s)) (ltb (s % esize n s + 1) (esize n s)) t in
+      let inner = both (not (eqb w 32 && not (eqb n 0))) (leb 1 (len n s)) (outer .0) in
+      let n-zero : w ≡ 32 → not (eqb n 0) ≡ false = λ q. rw (eq-eqb w 32 q) at (not-true (eqb w 32 && not (eqb n 0)) (inner .0)) in
       record {
         n-bits = hn;
         s-bits = hs;
         r-bits = hr;
         some-len = leb-true _ _ (inner .1);
         not-all = ltb-true _ _ (outer .1);
-        narrow = λ q. omega (arith, eqb-false n 1 (not-one q));
+        narrow = λ q. eqb-true n 0 (not-false (eqb n 0) (n-zero q));
       }
 
   pub defined-exactly : n ≤ 1 → s ≤ 63 → r ≤ 63 → (defined w n s ≡ true) ↔ Legal w n s r

@@ -30,9 +30,9 @@ logicalOp (suc zero) = ORR
 logicalOp (suc (suc zero)) = EOR
 logicalOp (suc (suc (suc n))) = ANDS
 
--- `Legal` as a test, for fields of one, six and six bits: if sf == '0' && N != '0' then UNDEFINED, and where DecodeBitMasks is not
+-- `Legal` as a test, for fields of one, six and six bits: if sf == '0' && N != '0' then UNDEFINED; the other two are DecodeBitMasks'
 unfoldable pub defined : ℕ → ℕ → ℕ → Bool
-defined w n s = not (eqb w 32 && eqb n 1) && leb 1 (len n s) && ltb (s % esize n s + 1) (esize n s)
+defined size n s = not (eqb size 32 && not (eqb n 0)) && leb 1 (len n s) && ltb (s % esize n s + 1) (esize n s)
 
 -- sf 31, opc 30:29, 100100 at 28:23, N 22, immr 21:16, imms 15:10, Rn 9:5, Rd 4:0
 unfoldable pub decodeLogical : ℕ → Option Logical

@@ -28,7 +28,7 @@ word-means operation v w rn rd x a h q =
     let m = word-made operation w rn rd x a q in
     let e : Encoded w v (ok (m .f)) = subst (λ (b : Said LogicalImm). Encoded w v b) (m .given) h in
     let size : datasize (w / 64) ≡ w = at-widths (λ (k : ℕ). datasize (k / 64) ≡ k) refl refl w (e .0) in
-    let one : w / 64 ≤ 1 = at-widths (λ (k : ℕ). k / 64 ≤ 1) (omega arith) (omega arith) w (e .0) in
+    let sf : w / 64 ≤ 1 = at-widths (λ (k : ℕ). k / 64 ≤ 1) (omega arith) (omega arith) w (e .0) in
     record {
       word = record { sf = w / 64; op = logicalOp operation; N = m .f .n; immr = m .f .r; imms = m .f .s; Rn = rn; Rd = rd };
       decoded =

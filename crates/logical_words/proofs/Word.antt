@@ -1,8 +1,8 @@
 -- The cases of the logical word. Assumes nothing.
-use mathlib.Core.Path.{_≡_, refl, sym, ap, _∙_, subst}
+use mathlib.Core.Path.{_≡_, refl, sym, ap, _∙_}
 use mathlib.Core.Bool.{Bool, true, false, cond, not, _||_}
 use mathlib.Core.Logic.{_⊎_, inl, inr, ⊎-elim}
-use mathlib.Core.List.{List, [], _∷_}
+use mathlib.Core.List.{[], _∷_}
 use Prim.Native.Nat.{ℕ, _+_, _*_, _/_, _≤_, _<_}
 use native.Mathlib.Omega.{arith}
 use borrow.Author.Tests.{lt-ltb, le-ltb, ne-eqb, ltb-false}
@@ -17,7 +17,7 @@ use Rattle.words.specs.declared.Words.{Words}
 use Rattle.words.proofs.Answers.{Short, listed-packed, not-both}
 use Rattle.words.proofs.Table.{at}
 use Rattle.logical.specs.declared.LogicalImm.{LogicalImm}
-use Rattle.logical_words.specs.Word.{bases, baseOf, placedOf, filled, wordOf, ForWord}
+use Rattle.logical_words.specs.Word.{bases, baseOf, placedOf, filled, wordOf}
 
 -- ---- the base: operations rise by 20000000 (hex)
 
