@@ -11,7 +11,7 @@ use lib.IntN.{ℤ, pos, negsuc, natAbs}
 use lib.Pow.{pow-add, pow-pos}
 use lib.Signed.{mag, ltZ}
 use Rattle.words.specs.Said.{Said, ok, no}
-use Rattle.words.proofs.Answers.{Short}
+use Rattle.words.proofs.Answers.{Short, Alone, alone-short}
 use Rattle.displacements.specs.declared.Form.{Form}
 use Rattle.displacements.specs.Forms.{formOf, fieldIn, putIn, step, reach, least, greatest}
 use Rattle.displacements.specs.Answer.{placeSaid, stepsOf, dispSaid}
@@ -124,13 +124,16 @@ module _ (n b : ℕ) (d : ℤ) where
   answers (far h free on r) = at-form h ∙ place-far (formOf n) b d free on (outside-range (formOf n) d r)
   answers (word h free on r) = at-form h ∙ place-word (formOf n) b d free on (inside-range (formOf n) d r)
 
--- one word at most
-pub short : (n b : ℕ) (d : ℤ) → Short (dispSaid n b d)
-short n b d = go (says n b d)
+-- one word
+pub alone : (n b : ℕ) (d : ℤ) → Alone (dispSaid n b d)
+alone n b d = go (says n b d)
   where
-    go : {a : Said (List ℕ)} → Says n b d a → Short a
+    go : {a : Said (List ℕ)} → Says n b d a → Alone a
     go (unknown h) = tt
     go (taken h t) = tt
     go (off h free o) = tt
     go (far h free on r) = tt
-    go (word h free on r) = omega arith
+    go (word h free on r) = refl
+
+pub short : (n b : ℕ) (d : ℤ) → Short (dispSaid n b d)
+short n b d = alone-short (dispSaid n b d) (alone n b d)

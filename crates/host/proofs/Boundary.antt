@@ -1,6 +1,6 @@
 -- Demand 2 at the host's boundary: what stands in the bytes after a call, by the entry's own contract and taken as words, does what was asked: run
 -- by Arm, decoded by Arm, read by the reader. And a refusal is a number from 1 to 10. Assumes nothing.
-use mathlib.Core.Path.{_≡_, refl, sym, ap, _∙_, subst}
+use mathlib.Core.Path.{_≡_, sym, ap, _∙_, subst}
 use mathlib.Core.List.{List, [], _∷_}
 use mathlib.Core.Option.{some}
 use Prim.Native.Nat.{ℕ, _+_, _*_, _^_, _%_, _≤_, _<_}
@@ -8,18 +8,18 @@ use native.Mathlib.Omega.{arith}
 use contract.Lifetimes.{Lfts}
 use denote.Ref.{RefT, now}
 use lib.IntN.{ℤ, pos, natAbs}
-use lib.ListN.{length, getD}
+use lib.ListN.{length}
 use lib.Seq.{slice}
 use Rattle.arm.specs.MoveWide.{Regs, write, run}
 use Rattle.words.specs.Said.{Said, ok, no}
-use Rattle.words.proofs.Answers.{not-both}
+use Rattle.words.proofs.Answers.{Alone, alone-word}
 use Rattle.writers.specs.Put.{wordsIn, putBytesOf}
 use Rattle.writers.proofs.Writes.{words-back}
 use Rattle.logical.specs.Answer.{Decodes, Encoded}
 use Rattle.logical.specs.declared.LogicalImm.{LogicalImm}
 use Rattle.logical_words.specs.Word.{wordOf}
 use Rattle.logical_words.specs.Meaning.{Means}
-use Rattle.logical_words.proofs.Word.{one-word}
+use Rattle.logical_words.proofs.Word.{word-alone}
 use Rattle.logical_words.proofs.Demands.{word-means}
 use Rattle.moves.specs.Moves.{movSaid}
 use Rattle.moves.proofs.Demands.{mov-said}
@@ -27,8 +27,8 @@ use Rattle.patchable_moves.specs.Patchable.{patchSaid}
 use Rattle.patchable_moves.proofs.Demands.{patch-said}
 use Rattle.displacements.specs.Answer.{dispSaid, originOf, between, targetSaid, readSaid, offset}
 use Rattle.displacements.proofs.Demands.{read-back, arrives}
-use Rattle.displacements.proofs.Answers.{word-alone}
-use Rattle.host.specs.Number.{told, refusalIn, valueIn, Reads, counted, wordsFrom, spelled}
+use Rattle.displacements.proofs.Answers.{alone}
+use Rattle.host.specs.Number.{refusalIn, valueIn, Reads, counted, wordsFrom, wordAt, spelled}
 use Rattle.host.proofs.Demands.{Sane, Called, reads, stands, move-sane, patchable-sane, displacement-sane, word-sane, fields-read, distance-read}
 use Rattle.host.proofs.vaimalofo_move.Reads as move
 use Rattle.host.proofs.vaimalofo_patchable_move.Reads as patchable-move
@@ -38,31 +38,126 @@ use Rattle.host.proofs.vaimalofo_displacement.Reads as displacement
 use Rattle.host.proofs.vaimalofo_displacement_to.Reads as displacement-to
 use Rattle.host.proofs.vaimalofo_read_displacement.Reads as read-displacement
 
--- the words asked for are those that a host finds
-found : (l : List ℕ) (at n : ℕ) (l′ : List ℕ) (x : Said (List ℕ)) → Sane x → Called l at n l′ x → refusalIn n ≡ 0 → x ≡ ok (wordsFrom n at l′)
-found l at n l′ x h e z =
-    let s = stands l at n l′ x h e z in
-    let many : natAbs (valueIn n) ≡ length (s .0) = ap natAbs (s .2 .count) in
-    let there : wordsFrom n at l′ ≡ s .0 = ap (λ (k : ℕ). wordsIn (slice (at * 4) ((at + k) * 4) l′)) many ∙ ap wordsIn (s .2 .words) ∙ words-back (s .0) in
-    s .1 ∙ ap ok (sym there)
-
--- the first of them
-abbrev pub wordAt : (x at : ℕ) → List ℕ → ℕ
-wordAt x at bs = getD (wordsFrom x at bs) 0 0
-
--- a refusal is 1 to 10, whatever was said
+-- a refusal is 1 to 10, and 0 where there is none
 in-range : (n : ℕ) (a : Said ℤ) → Reads n a → refusalIn n ≤ 10
 in-range n (ok v) r = omega (arith, r .0)
 in-range n (no m) r = omega (arith, r .1, r .2)
 
+-- the reader, asked for a word at a format, says the distance and refuses nothing
+abbrev pub Read : (word format : ℕ) → ℤ → Type 0
+Read word format distance =
+    (k : Lfts 0) (answer : ℕ) → read-displacement.Post k (word, (format, tt)) answer (word, (format, tt)) → (refusalIn answer ≡ 0) × (valueIn answer ≡ distance)
+
+reads-back : (word format base : ℕ) (distance : ℤ) → dispSaid format base distance ≡ ok (word ∷ []) → Read word format distance
+reads-back word format base distance e k answer p =
+    subst (Reads answer) (read-back format base distance word e) (distance-read word format answer p)
+
+-- ---- any call that wrote
+
+module _ (l : List ℕ) (at n : ℕ) (l′ : List ℕ) (x : Said (List ℕ)) (h : Sane x) (e : Called l at n l′ x) where
+  -- the words asked for are those that a host finds
+  found : refusalIn n ≡ 0 → x ≡ ok (wordsFrom n at l′)
+  found z =
+      let s = stands l at n l′ x h e z in
+      let many : natAbs (valueIn n) ≡ length (s .0) = ap natAbs (s .2 .count) in
+      s .1 ∙ ap ok (sym (ap (λ (k : ℕ). wordsIn (slice (at * 4) ((at + k) * 4) l′)) many ∙ ap wordsIn (s .2 .words) ∙ words-back (s .0)))
+
+  -- one word
+  found-one : Alone x → refusalIn n ≡ 0 → x ≡ ok (wordAt n at l′ ∷ [])
+  found-one a z = alone-word x (wordsFrom n at l′) a (found z)
+
+  refusal : refusalIn n ≤ 10
+  refusal = in-range n (counted at (putBytesOf l at x .0)) (reads l at n l′ x h e)
+
 module _ (k : Lfts 1) (bytes bytes′ : RefT (List ℕ)) (position answer : ℕ) where
+  abbrev l : List ℕ
+  l = now bytes
+
+  abbrev l′ : List ℕ
+  l′ = now bytes′
+
   -- ---- moves: "run from any old content of registers 0 to 30, leaves the asked value in all 64 bits and the other registers alone"
 
   module _ (value register : ℕ) (p : move.Post k (bytes, (position, (value, (register, tt)))) answer (bytes′, (position, (value, (register, tt))))) where
-    pub move-runs : refusalIn answer ≡ 0 → value < 2 ^ 64 → (R : Regs) → run (wordsFrom answer position (now bytes′)) R ≡ some (write R register value)
+    pub move-runs : refusalIn answer ≡ 0 → value < 2 ^ 64 → (R : Regs) → run (wordsFrom answer position l′) R ≡ some (write R register value)
     move-runs z v-is R =
-        mov-said value register v-is R (wordsFrom answer position (now bytes′))
-        (found (now bytes) position answer (now bytes′) (movSaid value register) (move-sane value register) p z)
+        mov-said value register v-is R (wordsFrom answer position l′) (found l position answer l′ (movSaid value register) (move-sane value register) p z)
 
     pub move-refusal : refusalIn answer ≤ 10
-    move-refusal = in-range answer (counted position (putBytesOf (now bytes) position (movSaid value register) .0)) (reads (now bytes) position answer (now bytes′) (movSaid value register) (move-sane value register) p)
+    move-refusal = refusal l position answer l′ (movSaid value register) (move-sane value register) p
+
+  module _ (value size register : ℕ)
+      (p : patchable-move.Post k (bytes, (position, (value, (size, (register, tt))))) answer (bytes′, (position, (value, (size, (register, tt)))))) where
+    pub patchable-move-runs : refusalIn answer ≡ 0 → value < 2 ^ 64 → (R : Regs) → run (wordsFrom answer position l′) R ≡ some (write R register (value % 2 ^ size))
+    patchable-move-runs z v-is R =
+        patch-said value size register v-is R (wordsFrom answer position l′)
+        (found l position answer l′ (patchSaid value size register) (patchable-sane value size register) p z)
+
+    pub patchable-move-refusal : refusalIn answer ≤ 10
+    patchable-move-refusal = refusal l position answer l′ (patchSaid value size register) (patchable-sane value size register) p
+
+  -- ---- the logical word: decoded by Arm, it is the operation on the low bits of the value
+
+  module _ (operation value width rn rd : ℕ)
+      (p : logical-word.Post k (bytes, (position, (operation, (value, (width, (rn, (rd, tt))))))) answer
+      (bytes′, (position, (operation, (value, (width, (rn, (rd, tt)))))))) where
+    abbrev said : Said (List ℕ)
+    said = wordOf operation width rn rd (p .0)
+
+    pub logical-word-means : refusalIn answer ≡ 0 → Means (wordAt answer position l′) operation value width rn rd
+    logical-word-means z =
+        word-means operation value width rn rd (wordAt answer position l′) (p .0) (p .1)
+        (found-one l position answer l′ said (word-sane operation width value rn rd (p .0) (p .1)) (p .2) (word-alone operation width rn rd (p .0)) z)
+
+    pub logical-word-refusal : refusalIn answer ≤ 10
+    logical-word-refusal = refusal l position answer l′ said (word-sane operation width value rn rd (p .0) (p .1)) (p .2)
+
+  -- ---- displacements: what was written, the reader reads
+
+  module _ (format base : ℕ) (distance : ℤ)
+      (p : displacement.Post k (bytes, (position, (format, (base, (distance, tt))))) answer (bytes′, (position, (format, (base, (distance, tt)))))) where
+    pub displacement-read : refusalIn answer ≡ 0 → Read (wordAt answer position l′) format distance
+    displacement-read z =
+        reads-back (wordAt answer position l′) format base distance
+        (found-one l position answer l′ (dispSaid format base distance) (displacement-sane format base distance) p (alone format base distance) z)
+
+    pub displacement-refusal : refusalIn answer ≤ 10
+    displacement-refusal = refusal l position answer l′ (dispSaid format base distance) (displacement-sane format base distance) p
+
+  module _ (format base target address : ℕ)
+      (p : displacement-to.Post k (bytes, (position, (format, (base, (target, (address, tt)))))) answer (bytes′, (position, (format, (base, (target, (address, tt))))))) where
+    abbrev apart : ℤ
+    apart = between target (originOf format address)
+
+    there : refusalIn answer ≡ 0 → targetSaid format base target address ≡ ok (wordAt answer position l′ ∷ [])
+    there z = found-one l position answer l′ (dispSaid format base apart) (displacement-sane format base apart) p (alone format base apart) z
+
+    pub displacement-to-read : refusalIn answer ≡ 0 → Read (wordAt answer position l′) format apart
+    displacement-to-read z = reads-back (wordAt answer position l′) format base apart (there z)
+
+    -- and by Arm's reading the instruction arrives at the target
+    pub displacement-to-arrives : refusalIn answer ≡ 0 → target < 2 ^ 64 → address < 2 ^ 64
+        → (originOf format address + offset format (wordAt answer position l′)) % 2 ^ 64 ≡ target
+    displacement-to-arrives z ht ha = arrives format base target address (wordAt answer position l′) ht ha (there z)
+
+    pub displacement-to-refusal : refusalIn answer ≤ 10
+    displacement-to-refusal = refusal l position answer l′ (dispSaid format base apart) (displacement-sane format base apart) p
+
+-- ---- the two that write nothing
+
+module _ (k : Lfts 0) (answer : ℕ) where
+  -- the fields in the answer decode to the low bits of the value
+  pub logical-fields-decode : (value width : ℕ) → logical-fields.Post k (value, (width, tt)) answer (value, (width, tt)) → refusalIn answer ≡ 0
+      → (f : LogicalImm) × (valueIn answer ≡ pos (f .n * 2 ^ 16 + f .s * 2 ^ 8 + f .r)) × Decodes width (f .n) (f .s) (f .r) (value % 2 ^ width)
+  logical-fields-decode value width p z = go (p .0) (p .1) (fields-read width value answer (p .0) (p .1) (p .2))
+    where
+      go : (a : Said LogicalImm) → Encoded width value a → Reads answer (spelled a)
+          → (f : LogicalImm) × (valueIn answer ≡ pos (f .n * 2 ^ 16 + f .s * 2 ^ 8 + f .r)) × Decodes width (f .n) (f .s) (f .r) (value % 2 ^ width)
+      go (ok f) e r = (f, r .1, e .1)
+      go (no n) e r = absurd (omega (arith, z, r .0, r .2))
+
+  pub logical-fields-refusal : (value width : ℕ) → logical-fields.Post k (value, (width, tt)) answer (value, (width, tt)) → refusalIn answer ≤ 10
+  logical-fields-refusal value width p = in-range answer (spelled (p .0)) (fields-read width value answer (p .0) (p .1) (p .2))
+
+  pub read-displacement-refusal : (word format : ℕ) → read-displacement.Post k (word, (format, tt)) answer (word, (format, tt)) → refusalIn answer ≤ 10
+  read-displacement-refusal word format p = in-range answer (readSaid word format) (distance-read word format answer p)

@@ -3,6 +3,7 @@ use mathlib.Core.Path.{_≡_}
 use mathlib.Core.List.{List}
 use Prim.Native.Nat.{ℕ, _+_, _-_, _*_, _/_, _%_, _^_, _≤_}
 use lib.IntN.{ℤ, pos, natAbs}
+use lib.ListN.{getD}
 use lib.Seq.{slice}
 use mir.Syntax.{w64}
 use mir.Val.{toZ, ofZ}
@@ -43,6 +44,10 @@ hostOf at (x, bs) = (told (counted at x), bs)
 -- the words that a host finds in the bytes after a call: from the position on, as many as the answer x says
 abbrev pub wordsFrom : (x at : ℕ) → List ℕ → List ℕ
 wordsFrom x at bs = wordsIn (slice (at * 4) ((at + natAbs (valueIn x)) * 4) bs)
+
+-- the first of them
+abbrev pub wordAt : (x at : ℕ) → List ℕ → ℕ
+wordAt x at bs = getD (wordsFrom x at bs) 0 0
 
 -- of fields: N * 65536 + S * 256 + R
 abbrev pub spelled : Said LogicalImm → Said ℤ

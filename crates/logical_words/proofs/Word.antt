@@ -14,7 +14,7 @@ use Rattle.arm.proofs.Logical.{spelled}
 use Rattle.words.specs.Said.{Said, ok, no}
 use Rattle.words.specs.Listed.{listed, packed}
 use Rattle.words.specs.declared.Words.{Words}
-use Rattle.words.proofs.Answers.{Short, listed-packed, not-both}
+use Rattle.words.proofs.Answers.{Alone, alone-short, listed-packed, not-both}
 use Rattle.words.proofs.Table.{at}
 use Rattle.logical.specs.declared.LogicalImm.{LogicalImm}
 use Rattle.logical_words.specs.Word.{bases, baseOf, placedOf, filled, wordOf}
@@ -81,21 +81,21 @@ word-made operation w rn rd x a = go (ltb 3 operation) (not (eqb w 32 || eqb w 6
         record { known = ltb-false 3 operation p; rn-low = ltb-false 31 rn q; rd-low = ltb-false 31 rd r; f = f; given = refl; word = cc }
     go false false false false (no k) p q r h = absurd (not-both (sym h))
 
--- no more words than a value holds
-word-short : (operation w rn rd : ℕ) (a : Said LogicalImm) → Short (wordOf operation w rn rd a)
+-- one word
+pub word-alone : (operation w rn rd : ℕ) (a : Said LogicalImm) → Alone (wordOf operation w rn rd a)
 unfolding wordOf
-word-short operation w rn rd a = go (ltb 3 operation) (not (eqb w 32 || eqb w 64)) (ltb 31 rn || ltb 31 rd) a
+word-alone operation w rn rd a = go (ltb 3 operation) (not (eqb w 32 || eqb w 64)) (ltb 31 rn || ltb 31 rd) a
   where
-    go : (b c d : Bool) (a : Said LogicalImm) → Short (cond b (no 7) (cond c (no 1) (cond d (no 2) (filled (baseOf operation w) rn rd a))))
+    go : (b c d : Bool) (a : Said LogicalImm) → Alone (cond b (no 7) (cond c (no 1) (cond d (no 2) (filled (baseOf operation w) rn rd a))))
     go true c d a = tt
     go false true d a = tt
     go false false true a = tt
-    go false false false (ok f) = omega arith
+    go false false false (ok f) = refl
     go false false false (no k) = tt
 
 -- the word by value, as a list
 pub word-listed : (operation w rn rd : ℕ) (a : Said LogicalImm) {x : Said Words} → x ≡ packed (wordOf operation w rn rd a) → listed x ≡ wordOf operation w rn rd a
-word-listed operation w rn rd a q = ap listed q ∙ listed-packed (wordOf operation w rn rd a) (word-short operation w rn rd a)
+word-listed operation w rn rd a q = ap listed q ∙ listed-packed (wordOf operation w rn rd a) (alone-short (wordOf operation w rn rd a) (word-alone operation w rn rd a))
 
 -- ---- the word with its fields where Arm has them
 

@@ -15,10 +15,10 @@ use Rattle.words.proofs.Contracts.{OneAnswer, one-answer}
 use Rattle.lines.specs.Item.{Item, words, numbers, no, badMark, cutAt, itemsOf}
 use Rattle.lines.specs.declared.Answer.{Answer}
 use Rattle.lines.specs.declared.Answer.the-variants.{Nothing, Words, Numbers, No, BadMark, Cut}
-use Rattle.logical.proofs.Laws.{encoded-one}
+use Rattle.logical.proofs.Laws.{one-from}
 use Rattle.immediates.proofs.Determined.{one-float}
 use Rattle.records.specs.Records.{Asked, move, fields, fp64, other, marked, kindOf, registerOf, valueOf, askedBy, fieldsLine, floatLine, Says, LineOf, tailOf}
-use Rattle.records.specs.Answers.{Plain, OneLine}
+use Rattle.records.specs.Answers.{Plain}
 use Rattle.records.proofs.answer.Reads as answer
 use Rattle.records.proofs.tail.Reads as tail
 use Rattle.records.specs.Inputs.{recordAt, offsetAt, endsAt, Told, none, more, Prints, whole, ended}
@@ -48,7 +48,7 @@ plain-all a b p q e = sym (plain-back a p) ∙ ap answerOf e ∙ plain-back b q
 
 pub says-one : (k : Asked) (rd v : ℕ) (i j : Item) → Says k rd v i → Says k rd v j → i ≡ j
 says-one move rd v i j p q = one-answer p q
-says-one (fields w) rd v i j (a, e, p) (b, f, q) = p ∙ ap fieldsLine (encoded-one w v a b e f) ∙ sym q
+says-one (fields w) rd v i j p q = one-from p q
 says-one fp64 rd v i j (a, e, p) (b, f, q) = p ∙ ap floatLine (one-float 64 v a b e f) ∙ sym q
 says-one other rd v i j p q = one-answer p q
 

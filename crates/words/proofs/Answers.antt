@@ -96,6 +96,22 @@ abbrev pub Short : Said (List ℕ) → Type 0
 Short (ok ws) = length ws ≤ 4
 Short (no n) = Unit
 
+-- one word, or a refusal
+abbrev pub Alone : Said (List ℕ) → Type 0
+Alone (ok ws) = length ws ≡ 1
+Alone (no n) = Unit
+
+pub alone-short : (x : Said (List ℕ)) → Alone x → Short x
+alone-short (ok ws) h = omega arith
+alone-short (no n) h = tt
+
+-- the word of it
+pub alone-word : (x : Said (List ℕ)) (ws : List ℕ) → Alone x → x ≡ ok ws → x ≡ ok (getD ws 0 0 ∷ [])
+alone-word (no n) ws h e = absurd (not-both (sym e))
+alone-word (ok []) ws h e = absurd (omega arith)
+alone-word (ok (a ∷ [])) ws h e = let same : a ∷ [] ≡ ws = cc in ap (λ (vs : List ℕ). ok (getD vs 0 0 ∷ [])) same
+alone-word (ok (a ∷ b ∷ vs)) ws h e = absurd (omega arith)
+
 pub listed-packed : (x : Said (List ℕ)) → Short x → listed (packed x) ≡ x
 listed-packed (ok ws) h = ap ok (list-back ws h)
 listed-packed (no n) h = refl
