@@ -1,5 +1,5 @@
 -- Each public entry's contract allows one answer. Assumes nothing.
-use mathlib.Core.Path.{_≡_, refl, sym, ap, _∙_}
+use mathlib.Core.Path.{_≡_, refl, ap}
 use mathlib.Core.Bool.{Bool, true, false}
 use mathlib.Core.Logic.{inl, inr, ⊎-elim}
 use Prim.Native.Nat.{ℕ, _%_, _^_}
@@ -7,7 +7,7 @@ use Rattle.arm.specs.Immediates.{VFPExpandImm, ByteMask}
 use Rattle.arm.proofs.Expand.{readFloat, readMask, back16, back32, back64, mask-back}
 use Rattle.words.specs.Said.{Said}
 use Rattle.words.proofs.Answers.{all-said, answered, refusal-back}
-use Rattle.words.proofs.Contracts.{OneAnswer}
+use Rattle.words.proofs.Contracts.{OneAnswer, one-answer}
 use Rattle.immediates.specs.declared.Imm8Answer.{Imm8Answer}
 use Rattle.immediates.specs.declared.Imm8Answer.the-variants.{Imm8, NoImm8}
 use Rattle.immediates.specs.Says.{said, FloatSays, MaskSays, Tests}
@@ -38,7 +38,7 @@ one-float N v a a' (inl s) (inl t) =
     (s .0)
 one-float N v a a' (inl s) (inr t) = absurd (t .0 (s .0))
 one-float N v a a' (inr s) (inl t) = absurd (s .0 (t .0))
-one-float N v a a' (inr s) (inr t) = s .1 ∙ sym (t .1)
+one-float N v a a' (inr s) (inr t) = one-answer (s .1) (t .1)
 
 pub one-mask : (v : ℕ) (a a' : Said ℕ) → MaskSays v a → MaskSays v a' → a ≡ a'
 one-mask = one-said ByteMask (readMask 8) (mask-back 8)
