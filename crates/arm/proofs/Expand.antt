@@ -1,6 +1,4 @@
--- Reading an 8-bit value back from what it expands to: floats over the exponent and fraction bits, byte masks over the bytes. What is read
--- (`readFloat`, `readMask`) and the sums by weights (`floatSum`, `maskSum`) are no definitions of Arm's: they are what code computes, and the laws
--- here tie them to Arm's. Assumes nothing.
+-- Reading an 8-bit value back from what it expands to: floats over the exponent and fraction bits, byte masks over the bytes. Assumes nothing.
 use mathlib.Core.Path.{_≡_, refl, sym, ap, _∙_}
 use mathlib.Core.Logic.{_⊎_, inl, inr, ⊎-elim}
 use Prim.Native.Nat.{ℕ, zero, suc, _+_, _-_, _*_, _/_, _%_, _^_, _<_}
@@ -10,26 +8,7 @@ use lib.Arith.{digits-div}
 use lib.Pow.{pow-pos, pow-add, mod-pow-add, shr-shr}
 use Rattle.arm.specs.Bits.{Replicate}
 use Rattle.arm.specs.Immediates.{VFPExpand, VFPExpandImm, byteMasks}
-
--- ---- what code computes
-
--- a float's sign, and the seven bits above the fraction's zeros
-abbrev pub readFloat : ℕ → ℕ → ℕ → ℕ
-readFloat E F x = x / 2 ^ (E + F) % 2 * 128 + x / 2 ^ (F - 4) % 128
-
--- the lowest bits of n bytes
-unfoldable pub readMask : ℕ → ℕ → ℕ
-readMask zero x = 0
-readMask (suc n) x = x % 2 + readMask n (x / 256) * 2
-
--- a float with k + 4 exponent and u + 4 fraction bits: the sign; the top of the exponent, less the run's lowest weight where bit 6 is set; the rest
-abbrev pub floatSum : ℕ → ℕ → ℕ → ℕ
-floatSum k u b = b / 128 * 2 ^ (k + u + 8) + (2 ^ (k + u + 7) - b / 64 % 2 * 2 ^ (u + 6)) + b % 64 * 2 ^ u
-
--- a mask of n bytes
-unfoldable pub maskSum : ℕ → ℕ → ℕ
-maskSum zero b = 0
-maskSum (suc n) b = b % 2 * 255 + maskSum n (b / 2) * 256
+use Rattle.arm.specs.Imm8.{readFloat, readMask, floatSum, maskSum}
 
 -- ---- floats
 

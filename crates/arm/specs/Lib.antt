@@ -7,3 +7,4 @@ pub mod Displacements
 pub mod Immediates
 -- not Arm's: what the contracts of private functions cite
 pub mod Elements
+pub mod Imm8

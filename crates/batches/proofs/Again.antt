@@ -1,6 +1,6 @@
 -- A turn of the loop that prints a block. Assumes nothing.
 use mathlib.Core.Path.{_≡_, refl, sym, ap, _∙_}
-use mathlib.Core.Bool.{Bool, true, false}
+use mathlib.Core.Bool.{Bool, false}
 use mathlib.Core.List.{List, [], _∷_, _++_}
 use Prim.Native.Nat.{ℕ, zero, suc, _+_, _-_, _*_, _/_, _%_, _^_, _≤_, _<_}
 use native.Mathlib.Numerals.{add-one}
@@ -30,9 +30,6 @@ firsts-take zero l h = refl
 firsts-take (suc n) l h = ap (λ (t : List ℕ). t ++ (getD l n 0 ∷ [])) (firsts-take n l (omega arith)) ∙ sym (take-suc l n 0 (omega arith))
 
 -- ---- the loop
-
-pub never : {A : Type 0} → true ≡ false → A
-never q = let z : _≡_ {A = ℕ} 0 1 = cc in absurd (omega arith)
 
 module _ (offset : ℕ) (bs o : List ℕ) where
   pub first : offset < 2 ^ 64 → Upto offset bs o 0 0 offset false o

@@ -4,7 +4,8 @@ use mathlib.Core.Bool.{Bool, true, false}
 use mathlib.Core.Logic.{inl, inr, ⊎-elim}
 use Prim.Native.Nat.{ℕ, _%_, _^_}
 use Rattle.arm.specs.Immediates.{VFPExpandImm, ByteMask}
-use Rattle.arm.proofs.Expand.{readFloat, readMask, back16, back32, back64, mask-back}
+use Rattle.arm.specs.Imm8.{readFloat, readMask}
+use Rattle.arm.proofs.Expand.{back16, back32, back64, mask-back}
 use Rattle.words.specs.Said.{Said}
 use Rattle.words.proofs.Answers.{all-said, answered, refusal-back}
 use Rattle.words.proofs.Contracts.{OneAnswer, one-answer}

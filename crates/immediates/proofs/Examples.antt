@@ -6,7 +6,7 @@ use mathlib.Core.Logic.{inl, inr, ⊎-elim}
 use Prim.Native.Nat.{ℕ, _%_, _^_}
 use borrow.Author.Tests.{eqb-true, eqb-false}
 use lib.Dec.{eqb}
-use Rattle.arm.proofs.Expand.{readFloat, readMask, floatSum, maskSum}
+use Rattle.arm.specs.Imm8.{readFloat, readMask, floatSum, maskSum}
 use Rattle.arm.proofs.Worked.{Worked}
 use Rattle.words.specs.Said.{Said, ok, no}
 use Rattle.immediates.specs.Says.{FloatSays, MaskSays}

@@ -5,7 +5,8 @@ use Prim.Native.Nat.{ℕ, _<_}
 use borrow.Author.Tests.{eqb-true, eqb-false}
 use lib.Dec.{eqb}
 use Rattle.arm.specs.Immediates.{VFPExpandImm, ByteMask}
-use Rattle.arm.proofs.Expand.{readFloat, readMask, floatSum, maskSum, read-below, read-few, back16, back32, back64, sum16, sum32, sum64, mask-back, mask-sum}
+use Rattle.arm.specs.Imm8.{readFloat, readMask, floatSum, maskSum}
+use Rattle.arm.proofs.Expand.{read-below, read-few, back16, back32, back64, sum16, sum32, sum64, mask-back, mask-sum}
 use Rattle.words.specs.Said.{Said, ok, no}
 use Rattle.immediates.specs.Says.{Spells, MaskSays, Tests}
 use Rattle.immediates.specs.Steps.{settled, isOk}

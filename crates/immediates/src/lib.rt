@@ -3,7 +3,7 @@
 ghost use mathlib.Core.Path.{_≡_};
 ghost use Prim.Native.Nat.{_%_, _^_, _<_};
 ghost use Rattle.arm.specs.Immediates.{VFPExpandImm, ByteMask};
-ghost use Rattle.arm.proofs.Expand.{readMask, maskSum};
+ghost use Rattle.arm.specs.Imm8.{readMask, maskSum};
 ghost use Rattle.immediates.specs.Says.{said, Spells, FloatSays, MaskSays, Tests};
 ghost use Rattle.immediates.specs.Steps.{settled, isOk};
 use words::Refusal;

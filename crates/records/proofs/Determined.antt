@@ -9,6 +9,7 @@ use mathlib.Core.Logic.{⊎-elim}
 use borrow.Author.Tests.{leb-true, leb-false}
 use lib.Dec.{eqb, ltb, leb}
 use lib.ListN.{length}
+use Rattle.arm.proofs.Tests.{never}
 use Rattle.words.specs.Listed.{wordsOf}
 use Rattle.words.proofs.Answers.{refusalOf, refusal-back}
 use Rattle.words.proofs.Contracts.{OneAnswer, one-answer}
@@ -17,7 +18,7 @@ use Rattle.lines.specs.declared.Answer.{Answer}
 use Rattle.lines.specs.declared.Answer.the-variants.{Nothing, Words, Numbers, No, BadMark, Cut}
 use Rattle.logical.proofs.Laws.{one-from}
 use Rattle.immediates.proofs.Determined.{one-float}
-use Rattle.records.specs.Records.{Asked, move, fields, fp64, other, marked, kindOf, registerOf, valueOf, askedBy, fieldsLine, floatLine, Says, LineOf, tailOf}
+use Rattle.records.specs.Records.{Asked, move, fields, fp64, other, marked, kindOf, registerOf, valueOf, askedBy, floatLine, Says, LineOf, tailOf}
 use Rattle.records.specs.Answers.{Plain}
 use Rattle.records.proofs.answer.Reads as answer
 use Rattle.records.proofs.tail.Reads as tail
@@ -99,9 +100,6 @@ tail-determined k a r s x y p q =
     plain-all r s (bare-plain r (rw p (bare-tail (a .0) (a .1 .0)))) (bare-plain s (rw q (bare-tail (a .0) (a .1 .0)))) (one-answer p q)
 
 -- ---- an input
-
-never : true ≡ false → ⊥
-never q = let z : _≡_ {A = ℕ} 0 1 = cc in omega arith
 
 module _ {offset : ℕ} {bs : List ℕ} where
   pub told-one : (k : ℕ) {s t : Bool} {is js : List Item} → Told offset bs k s is → Told offset bs k t js → (s ≡ t) × (is ≡ js)

@@ -1,5 +1,5 @@
 -- What the writers say and leave: the cases of `putOf` and `putBytesOf`, and what then stands in the run. Assumes nothing.
-use mathlib.Core.Path.{_≡_, refl, ap, _∙_}
+use mathlib.Core.Path.{_≡_, refl, sym, ap, _∙_}
 use mathlib.Core.Bool.{Bool, true, false, cond}
 use mathlib.Core.List.{List, [], _∷_, _++_}
 use mathlib.Core.Logic.{_⊎_, inl, inr, ⊎-elim}
@@ -10,6 +10,7 @@ use lib.Dec.{leb}
 use lib.ListN.{length, set, take, drop, getD, length-append}
 use lib.Seq.{sets, sets-eq, slice, take-at, drop-at, length-take-le, getD-set-other}
 use Rattle.words.specs.Said.{Said, ok, no}
+use Rattle.words.proofs.Answers.{not-both}
 use Rattle.writers.specs.Put.{putOf, putBytesOf, allBytes, wordsIn}
 
 -- the words fit, or there is no room for them
@@ -49,23 +50,14 @@ module _ (room place : ℕ) (l : List ℕ) (at : ℕ) (vs spelled l′ : List �
   taken p true t e =
       let answer : ok p ≡ ok (at + length vs) = ap (λ (r : Answer). r .0) e in
       record { past = cc; holds = ap (λ (r : Answer). r .1) e; fits = leb-true _ _ t }
-  taken p false t e =
-      let answer : ok p ≡ no 8 = ap (λ (r : Answer). r .0) e in
-      let never : _≡_ {A = ℕ} 0 1 = cc in
-      absurd (omega arith)
+  taken p false t e = absurd (not-both (ap (λ (r : Answer). r .0) e))
 
   left : (n : ℕ) (b : Bool) → _≡_ {A = Answer} (no n, l′) (both b) → l′ ≡ l
-  left n true e =
-      let answer : no n ≡ ok (at + length vs) = ap (λ (r : Answer). r .0) e in
-      let never : _≡_ {A = ℕ} 0 1 = cc in
-      absurd (omega arith)
+  left n true e = absurd (not-both (sym (ap (λ (r : Answer). r .0) e)))
   left n false e = ap (λ (r : Answer). r .1) e
 
   full : (n : ℕ) (b : Bool) → leb (at + length vs) room ≡ b → _≡_ {A = Answer} (no n, l′) (both b) → (n ≡ 8) × (room < at + length vs)
-  full n true t e =
-      let answer : no n ≡ ok (at + length vs) = ap (λ (r : Answer). r .0) e in
-      let never : _≡_ {A = ℕ} 0 1 = cc in
-      absurd (omega arith)
+  full n true t e = absurd (not-both (sym (ap (λ (r : Answer). r .0) e)))
   full n false t e =
       let answer : no n ≡ no 8 = ap (λ (r : Answer). r .0) e in
       (cc, leb-false _ _ t)

@@ -5,7 +5,7 @@ use Prim.Native.Nat.{ℕ, _/_}
 use native.Mathlib.Omega.{arith}
 use lib.ListN.{length, take, length-take}
 use Rattle.records.specs.Inputs.{offsetAt}
-use Rattle.batches.proofs.Again.{never}
+use Rattle.arm.proofs.Tests.{never}
 use borrow.Author.Needs.{needs}
 use Rattle.batches.proofs.block.Statement.{statement}
 use Rattle.batches.proofs.block.Tie as tie

@@ -3,7 +3,8 @@ use mathlib.Core.Path.{_≡_, refl, _∙_}
 use Prim.Native.Nat.{_-_, _≤_}
 use native.Mathlib.Omega.{arith}
 use lib.ListN.{length, length-take, length-drop}
-use Rattle.batches.proofs.Again.{never, Reached, started, reached, all-reached, progress}
+use Rattle.arm.proofs.Tests.{never}
+use Rattle.batches.proofs.Again.{Reached, started, reached, all-reached, progress}
 use Rattle.batches.proofs.pass.Statement.{statement}
 use Rattle.batches.proofs.pass.Tie as tie
 

@@ -6,7 +6,8 @@ use native.Mathlib.Omega.{arith}
 use lib.ListN.{length, drop, length-take, length-drop}
 use lib.Seq.{take-take}
 use Rattle.batches.specs.Printed.{Upto}
-use Rattle.batches.proofs.Again.{never, first, again}
+use Rattle.arm.proofs.Tests.{never}
+use Rattle.batches.proofs.Again.{first, again}
 use Rattle.batches.proofs.print.Statement.{statement}
 use Rattle.batches.proofs.print.Tie as tie
 

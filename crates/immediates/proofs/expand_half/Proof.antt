@@ -1,6 +1,6 @@
 -- `immediates::expand_half` meets its contract. Assumes nothing.
 use native.Mathlib.Nat.{add-zero}
-use Rattle.arm.proofs.Expand.{maskSum}
+use Rattle.arm.specs.Imm8.{maskSum}
 use borrow.Author.Needs.{needs}
 use Rattle.immediates.proofs.expand_half.Statement.{statement}
 use Rattle.immediates.proofs.expand_half.Tie as tie

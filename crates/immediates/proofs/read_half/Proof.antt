@@ -1,6 +1,6 @@
 -- `immediates::read_half` meets its contract. Assumes nothing.
 use native.Mathlib.Nat.{add-zero}
-use Rattle.arm.proofs.Expand.{readMask}
+use Rattle.arm.specs.Imm8.{readMask}
 use borrow.Author.Needs.{needs}
 use Rattle.immediates.proofs.read_half.Statement.{statement}
 use Rattle.immediates.proofs.read_half.Tie as tie
