@@ -253,7 +253,7 @@ fn size_op(map: usize, kind: RegType, element: VecElementType) -> Option<u8> {
 /// The word where the original accepts, and the size where it has written one.
 pub type Picked = (Option<u32>, Option<u32>);
 
-/// A row and a base word.
+/// A base word and a row.
 pub type Op = (u32, u32);
 
 /// None where a kind or element cannot be made.
@@ -272,7 +272,7 @@ fn picked(kind: RegType, element: VecElementType, s: Op, v: Op) -> Result<Picked
     let mut reg = VecReg::from_signature_and_id(signature, 0);
     reg.set_element_type(element);
     let mut size = UNWRITTEN;
-    let word = caught(|| encoder::pick_fp_opcode(reg, s.1, s.0, v.1, v.0, &mut size))?;
+    let word = caught(|| encoder::pick_fp_opcode(reg, s.0, s.1, v.0, v.1, &mut size))?;
     Ok((word.map(|word| word.get()), (size != UNWRITTEN).then_some(size)))
 }
 
@@ -291,7 +291,7 @@ mod tests {
                     assert_eq!(size_op(map, kind, element), Some(0xFF));
                 }
                 for row in 0..6 {
-                    assert_eq!(picked(kind, element, (row, 1), (row, 1)), Ok((None, None)));
+                    assert_eq!(picked(kind, element, (1, row), (1, row)), Ok((None, None)));
                 }
             }
         }

@@ -118,14 +118,14 @@ fn edges_that_document_01_does_not_list() {
     let overflow = if cfg!(debug_assertions) { Err(rust::Panics) } else { Ok(Some(0x17FF_FFFF)) };
     assert_eq!(rust::emit_rel(0, 0x1400_0000, 1 << 63, 0), Some(overflow));
     assert_eq!(disp_word(0, 0x1400_0000, distance(0, 1 << 63, 0)), Err(No(5)));
-    assert_eq!(rust::pick_fp_opcode(5, 0, (6, 1), (0, 0)), Some(Err(rust::Panics)));
-    assert_eq!(rust::pick_fp_opcode(1, 0, (6, 1), (0, 0)), Some(Ok((None, None))));
+    assert_eq!(rust::pick_fp_opcode(5, 0, (1, 6), (0, 0)), Some(Err(rust::Panics)));
+    assert_eq!(rust::pick_fp_opcode(1, 0, (1, 6), (0, 0)), Some(Ok((None, None))));
     assert_eq!(
-        rust::pick_fp_opcode(7, 4, (0, 0), (3, 0x0EA0_F820)),
+        rust::pick_fp_opcode(7, 4, (0, 0), (0x0EA0_F820, 3)),
         Some(Ok((Some(0x4EA0_F820), Some(2))))
     );
     assert_eq!(
-        rust::pick_fp_opcode(6, 4, (0, 0), (4, 0x0E20_D400)),
+        rust::pick_fp_opcode(6, 4, (0, 0), (0x0E20_D400, 4)),
         Some(Ok((Some(0x0E60_D400), Some(2))))
     );
 }
@@ -163,6 +163,6 @@ fn the_three_float_widths_spell_the_same_number() {
 fn element_7() {
     assert_eq!(element_type_to_size_op(1, 15, 0xFFFF, 7, 7), Ok(255));
     assert_eq!(pick_fp_opcode(7, 7, (0, 0), (1, 1)), Err(No(3)));
-    assert_eq!(pick_fp_opcode(7, 7, (0, 0), (6, 1)), Err(No(7)));
+    assert_eq!(pick_fp_opcode(7, 7, (0, 0), (1, 6)), Err(No(7)));
     assert_eq!(rust::element_type_to_size_op(0, 7, 7), None);
 }

@@ -158,10 +158,10 @@ fn sizes(r: Request) -> Answer {
         146 => pick(fp_picks::pick_fp_opcode(
             low(r.a),
             low(r.b),
-            Opc(low(r.d)),
-            low(r.c),
-            Opc(low(r.f)),
-            low(r.e),
+            Opc(low(r.c)),
+            low(r.d),
+            Opc(low(r.e)),
+            low(r.f),
         )),
         _ => Answer::No(Refusal::Unknown),
     }

@@ -52,13 +52,13 @@ const ROWS: [[Option<u32>; 3]; 6] = [
     [Some(0x80_0000), Some(0), Some(0x40_0000)],
 ];
 
-/// A row number and a base word.
+/// A base word and a row number.
 pub type Op = (u32, u32);
 
 /// The word and the size, 0, 1 or 2. Order 7, 3, 10. Element none is scalar; the other row and base
 /// are not looked at.
 pub fn pick_fp_opcode(kind: u32, element: u32, scalar: Op, vector: Op) -> Result<[u32; 2], No> {
-    let (row, base) = if element == 0 { scalar } else { vector };
+    let (base, row) = if element == 0 { scalar } else { vector };
     if kind > 7 || element > 7 || row > 5 {
         return Err(No(7));
     }

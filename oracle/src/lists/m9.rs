@@ -30,7 +30,7 @@ fn requests() -> Vec<Request> {
     }
     for [kind, element] in [[U32, 0], [6, U32], [U32, U32], [1 << 32, 0]] {
         list.push(Request::new(SIZE_OP, &[1, 15, 0xFFFF, kind, element]));
-        list.push(Request::new(PICK_FP, &[kind, element, 1, 7, 1, 7]));
+        list.push(Request::new(PICK_FP, &[kind, element, 7, 1, 7, 1]));
     }
     for entry in LIST.entries {
         list.extend((0..300).map(|_| any(*entry, &mut random)));
@@ -41,12 +41,12 @@ fn requests() -> Vec<Request> {
 fn picks(list: &mut Vec<Request>, kind: u64, element: u64) {
     for row in 0..=6 {
         for base in [0, 0x0E20_D400, U32] {
-            // The row and the base stand in both places, or the other place has wrong ones.
-            list.push(Request::new(PICK_FP, &[kind, element, row, base, row, base]));
-            let (other_row, other_base) = (U32, 0);
+            // The base and the row stand in both places, or the other place has wrong ones.
+            list.push(Request::new(PICK_FP, &[kind, element, base, row, base, row]));
+            let (other_base, other_row) = (0, U32);
             let args = match element {
-                0 => [kind, element, row, base, other_row, other_base],
-                _ => [kind, element, other_row, other_base, row, base],
+                0 => [kind, element, base, row, other_base, other_row],
+                _ => [kind, element, other_base, other_row, base, row],
             };
             list.push(Request::new(PICK_FP, &args));
         }
@@ -73,7 +73,7 @@ fn any(entry: u64, random: &mut Random) -> Request {
             let mut base = || {
                 if random.below(8) == 0 { 0 } else { random.value() }
             };
-            Request::new(entry, &[kind, element, rows[0], base(), rows[1], base()])
+            Request::new(entry, &[kind, element, base(), rows[0], base(), rows[1]])
         }
     }
 }

@@ -247,7 +247,7 @@ fn picked(r: &Request) -> Heard {
     let Ok([_, size]) = simd::pick_fp_opcode(kind, element, (1, 1), (1, 1)) else {
         return Says(Answer::no(3));
     };
-    let row = if element == 0 { r.low(2) } else { r.low(4) };
+    let row = if element == 0 { r.low(3) } else { r.low(5) };
     let answer = by_document::answer(r);
     match row {
         6.. => Panics,
