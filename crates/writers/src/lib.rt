@@ -31,12 +31,19 @@ fn fits(room: usize, i: usize, n: usize) -> bool
     n <= room - i
 }
 
+fn place(words: &mut [u32], j: usize, w: u32)
+    requires { ⌜ j < length (now words) ⌝ }
+    ensures { λ _. ⌜ now (words .exit) ≡ set (now (words .entry)) j w ⌝ }
+{
+    words[j] = w;
+}
+
 // A word at place k from i, or at the last place where that is nearer.
 fn store(words: &mut [u32], i: usize, last: usize, k: usize, w: u32)
     requires { ⌜ i + last < length (now words) ⌝ }
     ensures { λ _. ⌜ now (words .exit) ≡ set (now (words .entry)) (i + min k last) w ⌝ }
 {
-    words[i + least(k, last)] = w;
+    place(words, i + least(k, last), w);
 }
 
 // The words are stored from last to first with no test of their number: one that is not in the list goes to the last place, where the last
@@ -76,16 +83,23 @@ pub fn put(words: &mut [u32], at: WordPos, m: Worded) -> Written
     }
 }
 
+fn place_byte(bytes: &mut [u8], j: usize, b: u8)
+    requires { ⌜ j < length (now bytes) ⌝ }
+    ensures { λ _. ⌜ now (bytes .exit) ≡ set (now (bytes .entry)) j b ⌝ }
+{
+    bytes[j] = b;
+}
+
 // The four bytes of a word at place k from i, or at the last place where that is nearer; places count words.
 fn store_bytes(bytes: &mut [u8], i: usize, last: usize, k: usize, w: u32)
     requires { ⌜ (i + last) * 4 + 4 ≤ length (now bytes) ⌝ }
     ensures { λ _. ⌜ now (bytes .exit) ≡ sets (now (bytes .entry)) ((i + min k last) * 4) (bytesOf w) ⌝ }
 {
     let j = (i + least(k, last)) * 4;
-    bytes[j] = (w % 256) as u8;
-    bytes[j + 1] = (w / 256 % 256) as u8;
-    bytes[j + 2] = (w / 65536 % 256) as u8;
-    bytes[j + 3] = (w / 16777216) as u8;
+    place_byte(bytes, j, (w % 256) as u8);
+    place_byte(bytes, j + 1, (w / 256 % 256) as u8);
+    place_byte(bytes, j + 2, (w / 65536 % 256) as u8);
+    place_byte(bytes, j + 3, (w / 16777216) as u8);
 }
 
 fn store_all_bytes(bytes: &mut [u8], i: usize, n: usize, f: Words)

@@ -4,7 +4,7 @@ use Rattle.writers.proofs.store.Statement.{statement}
 use Rattle.writers.proofs.store.Tie as tie
 
 returns : tie.Need-returns
-returns c = rw (c .least .ensures)
+returns c = let at = c .before .before in rw (at .place .ensures, at .before .least .ensures)
 
 pub store-spec : {M : Type 1} → statement M
-store-spec = tie.close (tie.spec (search needs) (search needs) (search needs) (search needs) (search needs) returns)
+store-spec = tie.close (tie.spec (search needs) (search needs) (search needs) (search needs) returns)
