@@ -6,16 +6,17 @@ use mathlib.Core.Option.{some}
 use Prim.Native.Nat.{ℕ, _+_, _/_, _%_, _^_, _<_}
 use native.Mathlib.Nat.{mod-eq-of-lt}
 use native.Mathlib.Omega.{arith}
+use lib.Seq.{slice}
 use Rattle.arm.specs.MoveWide.{Regs, write, run}
 use Rattle.words.specs.Said.{ok}
 use Rattle.words.specs.Listed.{listOf, packed}
 use Rattle.words.specs.declared.Words.{Words}
 use Rattle.words.proofs.Answers.{not-both}
-use Rattle.writers.proofs.Writes.{put-done, written}
-use Rattle.moves.proofs.Calls.{Put, not-refused, Leaves, listed-as, counted}
+use Rattle.writers.proofs.Writes.{put-done}
+use Rattle.moves.proofs.Calls.{Put, not-refused, put-said, Leaves, made-said, counted}
 use Rattle.patchable_moves.specs.Patchable.{patch64, patch32, patchSaid}
 use Rattle.patchable_moves.proofs.Run.{patch64-run, patch32-run}
-use Rattle.patchable_moves.proofs.Lengths.{patch-by, patch64-length, patch32-length}
+use Rattle.patchable_moves.proofs.Lengths.{patch-by, patch64-length, patch32-length, patch-short}
 
 -- ---- the asked value
 
@@ -31,21 +32,11 @@ module _ (v size rd : ℕ) (v-is : v < 2 ^ 64) (R : Regs) where
 
   -- in the run after a call that was not turned down
   pub patched : (ws : List ℕ) (at p : ℕ) (ws′ : List ℕ) → Put ws at p ws′ (patchSaid v size rd) → Leaves at p ws′ R rd (v % 2 ^ size)
-  patched ws at p ws′ =
-      patch-by v size rd (λ x. Put ws at p ws′ x → Leaves at p ws′ R rd (v % 2 ^ size))
-      (λ e. absurd (not-refused ws at 1 p ws′ e))
-      (λ e. absurd (not-refused ws at 2 p ws′ e))
-      (λ s l e. rw (written ws at (patch64 v rd) p ws′ e, s, mod-eq-of-lt v-is) (patch64-run rd l v v-is R))
-      (λ s l e. rw (written ws at (patch32 v rd) p ws′ e, s) (patch32-run rd l v R))
+  patched ws at p ws′ e = patch-said (slice at p ws′) (put-said ws at p ws′ (patchSaid v size rd) e)
 
   -- by value
   pub patch-made : (f : Words) → ok f ≡ packed (patchSaid v size rd) → run (listOf f) R ≡ some (write R rd (v % 2 ^ size))
-  patch-made f =
-      patch-by v size rd (λ x. ok f ≡ packed x → run (listOf f) R ≡ some (write R rd (v % 2 ^ size)))
-      (λ e. absurd (not-both e))
-      (λ e. absurd (not-both e))
-      (λ s l e. rw (listed-as f (patch64 v rd) (omega (arith, patch64-length v rd)) e, s, mod-eq-of-lt v-is) (patch64-run rd l v v-is R))
-      (λ s l e. rw (listed-as f (patch32 v rd) (omega (arith, patch32-length v rd)) e, s) (patch32-run rd l v R))
+  patch-made f e = patch-said (listOf f) (made-said f (patchSaid v size rd) (patch-short v size rd) e)
 
 -- ---- how many words: always four at 64 and two at 32
 
