@@ -8,7 +8,7 @@ pub cut-determined : OneAnswer cut.Post
 cut-determined k a r s x y p q = rw (p .at-0, p .at-1, p .at-2, p .at-3, q .at-0, q .at-1, q .at-2, q .at-3)
 
 pub count-half-words-64-determined : OneAnswer count-half-words-64.Post
-count-half-words-64-determined k a r s x y p q = one-answer p q
+count-half-words-64-determined k a r s x y p q = rw (p .zeros, p .ones, q .zeros, q .ones)
 
 pub count-zero-half-words-64-determined : OneAnswer count-zero-half-words-64.Post
 count-zero-half-words-64-determined k a r s x y p q = one-answer p q

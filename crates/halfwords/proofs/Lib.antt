@@ -1,2 +1,3 @@
--- That each contract allows one answer.
+-- A pass over the halfwords, and that each contract allows one answer.
+pub mod Pass
 pub mod Determined

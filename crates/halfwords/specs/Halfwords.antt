@@ -4,6 +4,7 @@ use mathlib.Core.Bool.{cond}
 use Prim.Native.Nat.{ℕ, _+_, _*_, _/_, _%_, _^_, _≤_}
 use lib.Dec.{eqb}
 use Rattle.halfwords.specs.declared.Halves.{Halves}
+use Rattle.halfwords.specs.declared.Counts.{Counts}
 
 -- "A 64-bit value is cut into four 16-bit halfwords": number k, from the lowest on
 abbrev pub half : ℕ → ℕ → ℕ
@@ -28,3 +29,8 @@ pub record Halved (v : ℕ) (r : Halves) : Type 0 where
 pub record Tested (f h r : ℕ) : Type 0 where
   pub is : r ≡ same f h
   pub small : r ≤ 1
+
+-- how many are zero and how many are FFFF
+pub record Counted (v : ℕ) (r : Counts) : Type 0 where
+  pub zeros : r .zeros ≡ count 0 v
+  pub ones : r .ones ≡ count 0xFFFF v

@@ -1,6 +1,7 @@
 // The four 16-bit halfwords of a 64-bit value, of which modules 5 and 6 make moves, and how many of them are a given one.
 ghost use mathlib.Core.Path.{_≡_};
-ghost use Rattle.halfwords.specs.Halfwords.{count, Halved, Tested};
+ghost use Prim.Native.Nat.{_^_, _<_};
+ghost use Rattle.halfwords.specs.Halfwords.{count, Halved, Tested, Counted};
 
 // The four halfwords of a value, lowest first.
 pub struct Halves(pub u32, pub u32, pub u32, pub u32);
@@ -16,24 +17,48 @@ pub fn cut(imm: u64) -> Halves
     )
 }
 
-// 1 for a halfword that is f.
-fn same(f: u32, h: u32) -> usize
-    ensures { λ r. ⌜ Tested f h r ⌝ }
+// 1 for zero.
+fn is_zero(h: u32) -> usize
+    ensures { λ r. ⌜ Tested 0 h r ⌝ }
 {
-    if h == f { 1 } else { 0 }
+    if h == 0 { 1 } else { 0 }
 }
 
-// How many halfwords are f.
-pub fn count_half_words_64(f: u32, imm: u64) -> usize
-    ensures { λ r. ⌜ r ≡ count f imm ⌝ }
+// 1 for FFFF, the one halfword that carries with 1 more.
+fn is_ones(h: u32) -> usize
+    requires { ⌜ h < 2 ^ 16 ⌝ }
+    ensures { λ r. ⌜ Tested 0xFFFF h r ⌝ }
 {
-    let h = cut(imm);
-    same(f, h.0) + same(f, h.1) + same(f, h.2) + same(f, h.3)
+    ((h + 1) / 65536) as usize
+}
+
+// How many halfwords are zero, and how many are FFFF.
+pub struct Counts {
+    pub zeros: usize,
+    pub ones: usize,
+}
+
+// Both counts in one pass over the value.
+pub fn count_half_words_64(imm: u64) -> Counts
+    ensures { λ r. ⌜ Counted imm r ⌝ }
+{
+    let mut zeros = 0;
+    let mut ones = 0;
+    let mut left = imm;
+    let mut k: usize = 0;
+    while k < 4 {
+        let h = (left % 65536) as u32;
+        zeros += is_zero(h);
+        ones += is_ones(h);
+        left /= 65536;
+        k += 1;
+    }
+    Counts { zeros, ones }
 }
 
 // How many halfwords are zero.
 pub fn count_zero_half_words_64(imm: u64) -> usize
     ensures { λ r. ⌜ r ≡ count 0 imm ⌝ }
 {
-    count_half_words_64(0, imm)
+    count_half_words_64(imm).zeros
 }

@@ -86,11 +86,8 @@ fn lead(z: Opc, w: Opc, q: Words) -> Words
 fn filler(imm: u64) -> u32
     ensures { λ r. ⌜ Filled imm r ⌝ }
 {
-    if halfwords::count_half_words_64(0xFFFF, imm) <= halfwords::count_half_words_64(0, imm) {
-        0
-    } else {
-        0xFFFF
-    }
+    let c = halfwords::count_half_words_64(imm);
+    if c.ones <= c.zeros { 0 } else { 0xFFFF }
 }
 
 // The base of the first word.

@@ -2,6 +2,7 @@
 
 pub mod calls;
 pub mod judges;
+pub mod library;
 pub mod parts;
 pub mod tally;
 pub mod values;

@@ -1,22 +1,48 @@
 -- `halfwords::count_half_words_64` meets its contract. Assumes nothing.
-use mathlib.Core.Path.{_≡_}
-use Prim.Native.Nat.{ℕ, _+_}
-use Rattle.halfwords.specs.Halfwords.{same, count}
+use mathlib.Core.Path.{_≡_, refl}
+use Prim.Native.Nat.{_-_, _≤_}
+use native.Mathlib.Omega.{arith}
+use Rattle.halfwords.proofs.Pass.{among, above, next, up, all-four}
 use borrow.Author.Needs.{needs}
 use Rattle.halfwords.proofs.count_half_words_64.Statement.{statement}
 use Rattle.halfwords.proofs.count_half_words_64.Tie as tie
 
-sum : (g : ℕ → ℕ) {a b c d w x y z : ℕ} → a ≡ w → b ≡ x → c ≡ y → d ≡ z → g a + g b + g c + g d ≡ g w + g x + g y + g z
-sum g p q r s = rw (p, q, r, s)
+abbrev Inv-loop : tie.InvT-loop
+Inv-loop imm zeros₀ ones₀ left₀ k₀ zeros ones left k =
+    (k ≤ 4) × (zeros ≤ k) × (ones ≤ k) × (left ≡ above k imm) × (zeros ≡ among 0 k imm) × (ones ≡ among 0xFFFF k imm)
 
-returns : tie.Need-returns
-unfolding count
+abbrev μ-loop : tie.MeasureT-loop
+μ-loop imm zeros₀ ones₀ left₀ k₀ zeros ones left k = 4 - k
+
+loop-holds : tie.Need-loop-holds Inv-loop μ-loop
+loop-holds c = (omega arith, omega arith, omega arith, omega arith, refl, refl)
+
+loop-again : tie.Need-loop-again Inv-loop μ-loop
+loop-again c =
+    let l = c .before .before .before .loop in
+    let v = c .before .before .before .before .args .imm in
+    (omega arith, omega arith, omega arith, cc (up (l .k) v), cc (next 0 (l .k) v), cc (next 0xFFFF (l .k) v))
+
+returns : tie.Need-returns Inv-loop μ-loop
 returns c =
-    let s = c .before .before .before in
-    let f = s .before .before .args .f in
-    let h = s .before .cut .ensures in
-    rw (s .same .ensures .is, c .before .before .same2 .ensures .is, c .before .same3 .ensures .is, c .same4 .ensures .is)
-    (sum (same f) (h .at-0) (h .at-1) (h .at-2) (h .at-3))
+    let l = c .before .loop in
+    let v = c .before .before .args .imm in
+    let four : l .k ≡ 4 = omega arith in
+    record { zeros = cc (all-four 0 v); ones = cc (all-four 0xFFFF v) }
 
 pub count-half-words-64-spec : {M : Type 1} → statement M
-count-half-words-64-spec = tie.close (tie.spec (search needs) (search needs) (search needs) (search needs) (search needs) (search needs) (search needs) (search needs) returns)
+count-half-words-64-spec =
+    tie.close
+    (tie.spec
+    Inv-loop
+    μ-loop
+    loop-holds
+    (search needs)
+    (search needs)
+    (search needs)
+    (search needs)
+    (search needs)
+    (search needs)
+    (search needs)
+    loop-again
+    returns)

@@ -24,4 +24,4 @@ returns-2 c =
     record { is = sym (simp (lt-leb _ _ t)); small = omega arith }
 
 pub filler-spec : {M : Type 1} → statement M
-filler-spec = tie.close (tie.spec (search needs) (search needs) returns returns-2)
+filler-spec = tie.close (tie.spec (search needs) returns returns-2)

@@ -1,11 +1,15 @@
 //! speed: two million mixed values, each a move written into a run of bytes and its logical fields at width 64, by the C entries, by the
-//! Rust original and by a plain Rust program of document 01's rules; the same values, registers and run, in alternating rounds.
+//! Rust original and by a plain Rust program of document 01's rules; the same values, registers and run, in alternating rounds. Each
+//! argument is a shared object made of the library of another build, which is then a side too.
 
+use std::env;
 use std::fs;
 use std::hint::black_box;
+use std::rc::Rc;
 use std::thread;
 use std::time::Instant;
 
+use compare::library::Library;
 use compare::{put, values};
 use oracle::direct;
 use oracle::lists::random::Random;
@@ -13,7 +17,7 @@ use vaimalofo::WordPos;
 
 /// How many values, and how many rounds of each.
 const VALUES: usize = 2_000_000;
-const ROUNDS: usize = 15;
+const ROUNDS: usize = 61;
 
 /// The value list: of each value one of the eight kinds of `values::mixed` at random, from one generator of the oracle's seed.
 fn value_list() -> Vec<u64> {
@@ -39,15 +43,40 @@ fn register(i: usize) -> u32 {
     i as u32 % 31
 }
 
-type Moves = fn(&[u64], &mut [u8]) -> usize;
-type Fields = fn(&[u64]) -> u64;
+/// A side: its name, how it writes the words of all values one behind the other, and how it sums up their fields.
+struct Side {
+    name: String,
+    moves: Box<dyn Fn(&[u64], &mut [u8]) -> usize>,
+    fields: Box<dyn Fn(&[u64]) -> u64>,
+}
 
-/// The three sides; each writes the words of all values one behind the other, and sums up the fields.
-const SIDES: [(&str, Moves, Fields); 3] = [
-    ("the C entries", entry_moves, entry_fields),
-    ("the Rust original", original_moves, original_fields),
-    ("a plain Rust program", plain_moves, plain_fields),
-];
+fn side(
+    name: &str,
+    moves: impl Fn(&[u64], &mut [u8]) -> usize + 'static,
+    fields: impl Fn(&[u64]) -> u64 + 'static,
+) -> Side {
+    Side { name: name.to_string(), moves: Box::new(moves), fields: Box::new(fields) }
+}
+
+/// The three sides, and one for each library.
+fn sides(paths: impl Iterator<Item = String>) -> Vec<Side> {
+    let mut all = vec![
+        side("the C entries", entry_moves, entry_fields),
+        side("the Rust original", original_moves, original_fields),
+        side("a plain Rust program", plain_moves, plain_fields),
+    ];
+    for path in paths {
+        // SAFETY: whoever names a file here has made it as host/compare/README.md says.
+        let library = Rc::new(unsafe { Library::load(&path) }.expect("a library with the entries"));
+        let same = Rc::clone(&library);
+        all.push(side(
+            &path,
+            move |v, run| library_moves(&library, v, run),
+            move |v| library_fields(&same, v),
+        ));
+    }
+    all
+}
 
 fn entry_moves(values: &[u64], run: &mut [u8]) -> usize {
     let mut at = WordPos(0);
@@ -104,6 +133,24 @@ fn plain_fields(values: &[u64]) -> u64 {
     sum_fields(values, |value| batch_plain::logical_fields(value, 64))
 }
 
+fn library_moves(library: &Library, values: &[u64], run: &mut [u8]) -> usize {
+    let mut at = 0;
+    for (i, value) in values.iter().enumerate() {
+        let answer = library.mov(run, at, *value, register(i));
+        assert_eq!(answer as u8, 0, "there is room");
+        at += (answer >> 8) as usize;
+    }
+    at
+}
+
+fn library_fields(library: &Library, values: &[u64]) -> u64 {
+    sum_fields(values, |value| {
+        let answer = library.logical_fields(value, 64);
+        let fields = (answer >> 8) as u32;
+        (answer as u8 == 0).then_some([fields >> 16, fields >> 8 & 0xFF, fields & 0xFF])
+    })
+}
+
 /// Seconds of a call.
 fn timed(began: Instant, call: impl FnOnce()) -> f64 {
     let start = now(began);
@@ -118,41 +165,51 @@ fn median(mut seconds: Vec<f64>) -> f64 {
 
 fn main() {
     let began = Instant::now();
+    let sides = sides(env::args().skip(1));
     let values = value_list();
     let mut run = vec![0; 16 * VALUES];
-    let mut times = vec![[vec![], vec![]]; SIDES.len()];
-    let mut totals = vec![];
+    let mut times = vec![[vec![], vec![]]; sides.len()];
+    let mut totals = vec![(0, 0); sides.len()];
     for round in 0..ROUNDS {
-        for k in 0..SIDES.len() {
-            let side = (k + round) % SIDES.len();
-            let (_, moves, fields) = SIDES[side];
+        for k in 0..sides.len() {
+            let at = (k + round) % sides.len();
+            let Side { moves, fields, .. } = &sides[at];
             run.fill(0);
             let (mut words, mut sum) = (0, 0);
-            times[side][0].push(timed(began, || words = moves(black_box(&values), &mut run)));
-            times[side][1].push(timed(began, || sum = fields(black_box(&values))));
-            totals.push((side, words, sum));
+            times[at][0].push(timed(began, || words = moves(black_box(&values), &mut run)));
+            times[at][1].push(timed(began, || sum = fields(black_box(&values))));
+            totals[at] = (words, sum);
         }
     }
-    report(&times, &totals);
+    report(&sides, &times, &totals);
 }
 
-fn report(times: &[[Vec<f64>; 2]], totals: &[(usize, usize, u64)]) {
+fn report(sides: &[Side], times: &[[Vec<f64>; 2]], totals: &[(usize, u64)]) {
     println!("{VALUES} mixed values (values::mixed, seed and stream in speed.rs), {ROUNDS} rounds in turn, one thread, processor time");
     println!("the run of {} bytes was cleared before each round, outside of the time", 16 * VALUES);
-    let medians: Vec<[f64; 2]> = times
-        .iter()
-        .map(|[moves, fields]| [median(moves.clone()), median(fields.clone())])
-        .collect();
-    println!("the median time of the C entries, divided by that of");
-    println!("{:24} {:>8} {:>8} {:>8}", "", "moves", "fields", "both");
-    let [moves, fields] = medians[0];
-    for ((name, _, _), [m, f]) in SIDES.iter().zip(&medians).skip(1) {
-        let (both, all) = (moves + fields, m + f);
-        println!("{name:24} {:8.2} {:8.2} {:8.2}", moves / m, fields / f, both / all);
+    let columns = times.iter().map(|[moves, fields]| {
+        let both = moves.iter().zip(fields).map(|(m, f)| m + f).collect();
+        [moves.clone(), fields.clone(), both]
+    });
+    let columns: Vec<[Vec<f64>; 3]> = columns.collect();
+    // The build named last, or the C entries where none is named.
+    let first = if sides.len() > 3 { sides.len() - 1 } else { 0 };
+    println!(
+        "medians: nanoseconds a value; and the time of {} divided by the side's in the same round",
+        sides[first].name
+    );
+    println!("{:24}    moves   fields     both    moves   fields     both", "");
+    for (side, column) in sides.iter().zip(&columns) {
+        print!("{:24}", side.name);
+        for seconds in column {
+            print!(" {:8.2}", median(seconds.clone()) * 1e9 / VALUES as f64);
+        }
+        for (seconds, others) in column.iter().zip(&columns[first]) {
+            print!(" {:8.3}", median(others.iter().zip(seconds).map(|(a, b)| a / b).collect()));
+        }
+        println!();
     }
-    for (side, (name, _, _)) in SIDES.iter().enumerate() {
-        let (_, words, sum) =
-            totals.iter().find(|total| total.0 == side).expect("each side has run");
-        println!("{name}: {words} words, fields sum {sum:x}");
+    for (side, (words, sum)) in sides.iter().zip(totals) {
+        println!("{}: {words} words, fields sum {sum:x}", side.name);
     }
 }

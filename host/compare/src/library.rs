@@ -1,0 +1,55 @@
+//! The library of some build as a shared object, so that two builds can be timed in one run.
+
+use std::ffi::{c_char, c_int, c_void, CStr, CString};
+use std::mem;
+
+extern "C" {
+    fn dlopen(path: *const c_char, flags: c_int) -> *mut c_void;
+    fn dlsym(library: *mut c_void, name: *const c_char) -> *mut c_void;
+}
+
+/// C's RTLD_NOW. Without RTLD_GLOBAL the symbols stay the library's own.
+const RTLD_NOW: c_int = 2;
+
+/// The two entries that are timed, called by pointer.
+pub struct Library {
+    mov: unsafe extern "C" fn(*mut u8, usize, usize, u64, u32) -> u64,
+    logical_fields: unsafe extern "C" fn(u64, u32) -> u64,
+}
+
+impl Library {
+    /// The entries of a shared object, or nothing where it cannot be loaded or lacks one of them.
+    ///
+    /// # Safety
+    /// It is made of this project's static library, at a state at which the two entries have these types.
+    pub unsafe fn load(path: &str) -> Option<Library> {
+        let path = CString::new(path).ok()?;
+        let library = dlopen(path.as_ptr(), RTLD_NOW);
+        let (mov, logical_fields) =
+            (entry(library, c"vaimalofo_move")?, entry(library, c"vaimalofo_logical_fields")?);
+        Some(Library { mov: mem::transmute(mov), logical_fields: mem::transmute(logical_fields) })
+    }
+
+    /// How many words a move wrote, above the refusal's number.
+    #[inline]
+    pub fn mov(&self, bytes: &mut [u8], position: usize, value: u64, register: u32) -> u64 {
+        // SAFETY: pointer and length are the slice's, lent for the call.
+        unsafe { (self.mov)(bytes.as_mut_ptr(), bytes.len(), position, value, register) }
+    }
+
+    /// The fields above the refusal's number.
+    #[inline]
+    pub fn logical_fields(&self, value: u64, width: u32) -> u64 {
+        // SAFETY: numbers alone.
+        unsafe { (self.logical_fields)(value, width) }
+    }
+}
+
+/// A symbol of a library that was loaded.
+unsafe fn entry(library: *mut c_void, name: &CStr) -> Option<*mut c_void> {
+    if library.is_null() {
+        return None;
+    }
+    let symbol = dlsym(library, name.as_ptr());
+    (!symbol.is_null()).then_some(symbol)
+}
