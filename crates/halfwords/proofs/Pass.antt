@@ -19,16 +19,16 @@ abbrev pub above : ℕ → ℕ → ℕ
 above n v = v / 2 ^ (16 * n)
 
 -- a turn passes the lowest halfword of what is left
-pub next : (f n v : ℕ) → among f n v + same f (above n v % 2 ^ 16) ≡ among f (n + 1) v
-next f n v = rw add-one refl
+pub next : (f n v : ℕ) {c left s : ℕ} → c ≡ among f n v → left ≡ above n v → s ≡ same f (left % 2 ^ 16) → c + s ≡ among f (n + 1) v
+next f n v c left s = rw (c, s, left, add-one) refl
 
-pub up : (n v : ℕ) → above n v / 2 ^ 16 ≡ above (n + 1) v
-up n v = let e : 16 * (n + 1) ≡ 16 * n + 16 = omega arith in rw (e, ← shr-shr v (16 * n) 16)
+pub up : (n v : ℕ) {left : ℕ} → left ≡ above n v → left / 2 ^ 16 ≡ above (n + 1) v
+up n v left = let e : 16 * (n + 1) ≡ 16 * n + 16 = omega arith in rw (left, e, ← shr-shr v (16 * n) 16)
 
 -- after four turns it has the count
-pub all-four : (f v : ℕ) → among f 4 v ≡ count f v
+pub all-four : (f v : ℕ) {n c : ℕ} → n ≡ 4 → c ≡ among f n v → c ≡ count f v
 unfolding count
-all-four f v = omega arith
+all-four f v n c = rw (c, n) (omega arith)
 
 -- FFFF alone carries with 1 more
 pub carries : (h : ℕ) → h < 2 ^ 16 → (h + 1) / 2 ^ 16 ≡ same 0xFFFF h

@@ -12,6 +12,7 @@ extern "C" {
 const RTLD_NOW: c_int = 2;
 
 /// The two entries that are timed, called by pointer.
+#[derive(Clone, Copy)]
 pub struct Library {
     mov: unsafe extern "C" fn(*mut u8, usize, usize, u64, u32) -> u64,
     logical_fields: unsafe extern "C" fn(u64, u32) -> u64,
@@ -32,14 +33,14 @@ impl Library {
 
     /// How many words a move wrote, above the refusal's number.
     #[inline]
-    pub fn mov(&self, bytes: &mut [u8], position: usize, value: u64, register: u32) -> u64 {
+    pub fn mov(self, bytes: &mut [u8], position: usize, value: u64, register: u32) -> u64 {
         // SAFETY: pointer and length are the slice's, lent for the call.
         unsafe { (self.mov)(bytes.as_mut_ptr(), bytes.len(), position, value, register) }
     }
 
     /// The fields above the refusal's number.
     #[inline]
-    pub fn logical_fields(&self, value: u64, width: u32) -> u64 {
+    pub fn logical_fields(self, value: u64, width: u32) -> u64 {
         // SAFETY: numbers alone.
         unsafe { (self.logical_fields)(value, width) }
     }

@@ -20,15 +20,16 @@ loop-holds c = (omega arith, omega arith, omega arith, omega arith, refl, refl)
 loop-again : tie.Need-loop-again Inv-loop μ-loop
 loop-again c =
     let l = c .before .before .before .loop in
-    let v = c .before .before .before .before .args .imm in
-    (omega arith, omega arith, omega arith, cc (up (l .k) v), cc (next 0 (l .k) v), cc (next 0xFFFF (l .k) v))
+    let p = l .inv in
+    let zeros = next 0 (l .k) _ (p .4) (p .3) (c .before .is-zero .ensures .is) in
+    let ones = next 0xFFFF (l .k) _ (p .5) (p .3) (c .is-ones .ensures .is) in
+    (omega arith, omega arith, omega arith, up (l .k) _ (p .3), zeros, ones)
 
 returns : tie.Need-returns Inv-loop μ-loop
 returns c =
-    let l = c .before .loop in
-    let v = c .before .before .args .imm in
-    let four : l .k ≡ 4 = omega arith in
-    record { zeros = cc (all-four 0 v); ones = cc (all-four 0xFFFF v) }
+    let p = c .before .loop .inv in
+    let four : c .before .loop .k ≡ 4 = omega arith in
+    record { zeros = all-four 0 _ four (p .4); ones = all-four 0xFFFF _ four (p .5) }
 
 pub count-half-words-64-spec : {M : Type 1} → statement M
 count-half-words-64-spec =

@@ -5,7 +5,7 @@
 use std::env;
 use std::fs;
 use std::hint::black_box;
-use std::rc::Rc;
+use std::process;
 use std::thread;
 use std::time::Instant;
 
@@ -67,12 +67,14 @@ fn sides(paths: impl Iterator<Item = String>) -> Vec<Side> {
     ];
     for path in paths {
         // SAFETY: whoever names a file here has made it as host/compare/README.md says.
-        let library = Rc::new(unsafe { Library::load(&path) }.expect("a library with the entries"));
-        let same = Rc::clone(&library);
+        let Some(library) = (unsafe { Library::load(&path) }) else {
+            eprintln!("speed: {path}: no shared object with the entries (host/compare/README.md)");
+            process::exit(2);
+        };
         all.push(side(
             &path,
-            move |v, run| library_moves(&library, v, run),
-            move |v| library_fields(&same, v),
+            move |values, run| library_moves(library, values, run),
+            move |values| library_fields(library, values),
         ));
     }
     all
@@ -133,7 +135,7 @@ fn plain_fields(values: &[u64]) -> u64 {
     sum_fields(values, |value| batch_plain::logical_fields(value, 64))
 }
 
-fn library_moves(library: &Library, values: &[u64], run: &mut [u8]) -> usize {
+fn library_moves(library: Library, values: &[u64], run: &mut [u8]) -> usize {
     let mut at = 0;
     for (i, value) in values.iter().enumerate() {
         let answer = library.mov(run, at, *value, register(i));
@@ -143,12 +145,17 @@ fn library_moves(library: &Library, values: &[u64], run: &mut [u8]) -> usize {
     at
 }
 
-fn library_fields(library: &Library, values: &[u64]) -> u64 {
+fn library_fields(library: Library, values: &[u64]) -> u64 {
     sum_fields(values, |value| {
         let answer = library.logical_fields(value, 64);
         let fields = (answer >> 8) as u32;
         (answer as u8 == 0).then_some([fields >> 16, fields >> 8 & 0xFF, fields & 0xFF])
     })
+}
+
+/// Words in one number that depends on each of them and on its place.
+fn fingerprint(bytes: &[u8]) -> u64 {
+    bytes.iter().fold(0, |sum: u64, byte| (sum ^ u64::from(*byte)).wrapping_mul(0x100_0000_01B3))
 }
 
 /// Seconds of a call.
@@ -168,48 +175,46 @@ fn main() {
     let sides = sides(env::args().skip(1));
     let values = value_list();
     let mut run = vec![0; 16 * VALUES];
-    let mut times = vec![[vec![], vec![]]; sides.len()];
-    let mut totals = vec![(0, 0); sides.len()];
+    let mut times = vec![[vec![], vec![], vec![]]; sides.len()];
+    let mut totals = vec![(0, 0, 0); sides.len()];
     for round in 0..ROUNDS {
         for k in 0..sides.len() {
             let at = (k + round) % sides.len();
             let Side { moves, fields, .. } = &sides[at];
             run.fill(0);
             let (mut words, mut sum) = (0, 0);
-            times[at][0].push(timed(began, || words = moves(black_box(&values), &mut run)));
-            times[at][1].push(timed(began, || sum = fields(black_box(&values))));
-            totals[at] = (words, sum);
+            let moved = timed(began, || words = moves(black_box(&values), &mut run));
+            let found = timed(began, || sum = fields(black_box(&values)));
+            for (column, seconds) in times[at].iter_mut().zip([moved, found, moved + found]) {
+                column.push(seconds);
+            }
+            totals[at] = (words, fingerprint(&run[..4 * words]), sum);
         }
     }
     report(&sides, &times, &totals);
 }
 
-fn report(sides: &[Side], times: &[[Vec<f64>; 2]], totals: &[(usize, u64)]) {
+fn report(sides: &[Side], times: &[[Vec<f64>; 3]], totals: &[(usize, u64, u64)]) {
     println!("{VALUES} mixed values (values::mixed, seed and stream in speed.rs), {ROUNDS} rounds in turn, one thread, processor time");
     println!("the run of {} bytes was cleared before each round, outside of the time", 16 * VALUES);
-    let columns = times.iter().map(|[moves, fields]| {
-        let both = moves.iter().zip(fields).map(|(m, f)| m + f).collect();
-        [moves.clone(), fields.clone(), both]
-    });
-    let columns: Vec<[Vec<f64>; 3]> = columns.collect();
-    // The build named last, or the C entries where none is named.
-    let first = if sides.len() > 3 { sides.len() - 1 } else { 0 };
+    // The library named last, or the C entries where none is named.
+    let one = if sides.len() > 3 { sides.len() - 1 } else { 0 };
     println!(
         "medians: nanoseconds a value; and the time of {} divided by the side's in the same round",
-        sides[first].name
+        sides[one].name
     );
     println!("{:24}    moves   fields     both    moves   fields     both", "");
-    for (side, column) in sides.iter().zip(&columns) {
+    for (side, columns) in sides.iter().zip(times) {
         print!("{:24}", side.name);
-        for seconds in column {
+        for seconds in columns {
             print!(" {:8.2}", median(seconds.clone()) * 1e9 / VALUES as f64);
         }
-        for (seconds, others) in column.iter().zip(&columns[first]) {
-            print!(" {:8.3}", median(others.iter().zip(seconds).map(|(a, b)| a / b).collect()));
+        for (seconds, of_one) in columns.iter().zip(&times[one]) {
+            print!(" {:8.3}", median(of_one.iter().zip(seconds).map(|(a, b)| a / b).collect()));
         }
         println!();
     }
-    for (side, (words, sum)) in sides.iter().zip(totals) {
-        println!("{}: {words} words, fields sum {sum:x}", side.name);
+    for (side, (words, bytes, sum)) in sides.iter().zip(totals) {
+        println!("{}: {words} words, fingerprint {bytes:x}, fields sum {sum:x}", side.name);
     }
 }
