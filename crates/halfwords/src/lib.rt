@@ -1,4 +1,4 @@
-// The four 16-bit halfwords of a 64-bit value, of which modules 5 and 6 make moves, and how many of them are a given one.
+// The four 16-bit halfwords of a 64-bit value, of which modules 5 and 6 make moves, and how many of them are zero and how many FFFF.
 ghost use mathlib.Core.Path.{_≡_};
 ghost use Prim.Native.Nat.{_^_, _<_};
 ghost use Rattle.halfwords.specs.Halfwords.{count, Halved, Tested, Counted};
