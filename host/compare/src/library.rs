@@ -46,7 +46,7 @@ impl Library {
     }
 }
 
-/// A symbol of a library that was loaded.
+/// A symbol of a library, or nothing where the library was not loaded or lacks it.
 unsafe fn entry(library: *mut c_void, name: &CStr) -> Option<*mut c_void> {
     if library.is_null() {
         return None;

@@ -198,7 +198,7 @@ fn report(sides: &[Side], times: &[[Vec<f64>; 3]], totals: &[(usize, u64, u64)])
     println!("{VALUES} mixed values (values::mixed, seed and stream in speed.rs), {ROUNDS} rounds in turn, one thread, processor time");
     println!("the run of {} bytes was cleared before each round, outside of the time", 16 * VALUES);
     // The library named last, or the C entries where none is named.
-    let one = if sides.len() > 3 { sides.len() - 1 } else { 0 };
+    let one = if env::args().len() > 1 { sides.len() - 1 } else { 0 };
     println!(
         "medians: nanoseconds a value; and the time of {} divided by the side's in the same round",
         sides[one].name
