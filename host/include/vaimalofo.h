@@ -27,7 +27,8 @@ enum {
     VAIMALOFO_RANGE = 5,    /* the distance is outside the format's range */
     VAIMALOFO_TAKEN = 6,    /* the base word already has a bit set in the field */
     VAIMALOFO_UNKNOWN = 7,  /* an unknown format or operation number */
-    VAIMALOFO_NO_ROOM = 8   /* the words do not fit from the position on, or the position lies past the end */
+    VAIMALOFO_NO_ROOM = 8,  /* the words do not fit from the position on, or the position lies past the end */
+    VAIMALOFO_WRONG_FORM = 11 /* the base word is not an instruction of this format */
 };
 
 /* Displacement formats. */
@@ -37,7 +38,7 @@ enum {
     VAIMALOFO_BRANCH_14 = 2, /* TBZ, TBNZ */
     VAIMALOFO_ADR_21 = 3,
     VAIMALOFO_ADRP_21 = 4,
-    VAIMALOFO_LDR_19 = 5 /* LDR (literal) */
+    VAIMALOFO_LDR_19 = 5 /* LDR, LDRSW, PRFM (literal), of SIMD registers too */
 };
 
 /* Logical operations. */
@@ -68,14 +69,18 @@ uint64_t vaimalofo_logical_fields(uint64_t value, uint32_t width);
 uint64_t vaimalofo_logical_word(uint8_t *bytes, size_t length, size_t position, uint32_t operation, uint64_t value,
                                 uint32_t width, uint32_t rn, uint32_t rd);
 
-/* A base word with a distance in bytes in the field of a format. Order 7, 6, 4, 5, 8. Value: the number of words, 1. */
+/* A base word with a distance in bytes in the field of a format. The base is an instruction of the format, and its field is clear.
+ * Order 7, 11, 6, 4, 5, 8. Value: the number of words, 1. */
 uint64_t vaimalofo_displacement(uint8_t *bytes, size_t length, size_t position, uint32_t format, uint32_t base,
                                 int64_t distance);
 
 /* The same from a target and the address of the instruction: target minus address, modulo 2^64 and read as signed; for ADRP the
- * address first loses its low 12 bits. Order 7, 6, 4, 5, 8. Value: the number of words, 1. */
+ * address first loses its low 12 bits. Order 7, 11, 6, 4, 5, 8. Value: the number of words, 1. */
 uint64_t vaimalofo_displacement_to(uint8_t *bytes, size_t length, size_t position, uint32_t format, uint32_t base,
                                    uint64_t target, uint64_t address);
+
+/* Whether a word has the fixed bits of an instruction of a format, whatever its field holds. Order 7. Value: 1 or 0. */
+uint64_t vaimalofo_has_form(uint32_t format, uint32_t word);
 
 /* The distance that any word spells at a format. Order 7. Value: the distance in bytes. */
 uint64_t vaimalofo_read_displacement(uint32_t word, uint32_t format);

@@ -45,6 +45,7 @@ extern "C" {
         target: u64,
         address: u64,
     ) -> u64;
+    fn vaimalofo_has_form(format: u32, word: u32) -> u64;
     fn vaimalofo_read_displacement(word: u32, format: u32) -> u64;
 }
 
@@ -111,6 +112,12 @@ pub fn displacement_to(
     let (start, length) = (bytes.as_mut_ptr(), bytes.len());
     // SAFETY: pointer and length are the slice's, lent for the call.
     unsafe { vaimalofo_displacement_to(start, length, position, format, base, target, address) }
+}
+
+#[inline]
+pub fn has_form(format: u32, word: u32) -> u64 {
+    // SAFETY: numbers alone.
+    unsafe { vaimalofo_has_form(format, word) }
 }
 
 #[inline]

@@ -58,7 +58,7 @@ pub mod format {
     pub const ADR_21: u32 = 3;
     /// ADRP: 21 bits as for ADR, in steps of 4096.
     pub const ADRP_21: u32 = 4;
-    /// LDR (literal): 19 bits at bit 5, in steps of 4.
+    /// LDR, LDRSW and PRFM (literal), of SIMD registers too: 19 bits at bit 5, in steps of 4.
     pub const LDR_19: u32 = 5;
 }
 
@@ -80,7 +80,7 @@ fn answer(number: u64) -> Result<i64, Refusal> {
     match number as u8 {
         0 => Ok(number as i64 >> 8),
         refusal => {
-            Err(Refusal::from_number(refusal).expect("the entries give document 01's numbers"))
+            Err(Refusal::from_number(refusal).expect("the entries give the refusals' numbers"))
         }
     }
 }
@@ -202,11 +202,11 @@ pub fn logical_word(
 }
 
 /// Writes a base word with a distance placed in the field of a [`mod@format`]. The distance counts from the instruction; for ADRP, from
-/// its page.
+/// its page. The base is an instruction of the format ([`has_form`]) with nothing in the field; every other bit of it stays.
 ///
 /// # Errors
-/// [`Refusal::Unknown`] for a format above 5, [`Refusal::Taken`] where the base has a bit set in the field, [`Refusal::Step`],
-/// [`Refusal::Range`], then [`Refusal::NoRoom`].
+/// [`Refusal::Unknown`] for a format above 5, [`Refusal::WrongForm`] where the base is no instruction of the format,
+/// [`Refusal::Taken`] where it has a bit set in the field, [`Refusal::Step`], [`Refusal::Range`], then [`Refusal::NoRoom`].
 ///
 /// ```
 /// use vaimalofo::{displacement, format, words, ByteDistance, Refusal, WordPos};
@@ -216,6 +216,8 @@ pub fn logical_word(
 /// assert_eq!(displacement(&mut code, WordPos(0), format::LDR_19, 0x58000000, ByteDistance(8)), Ok(WordPos(1)));
 /// assert_eq!(words(&code), [0x58000040]);
 /// assert_eq!(displacement(&mut code, WordPos(0), format::BRANCH_26, 0x14000000, far), Err(Refusal::Range));
+/// // A branch distance into an ADR word.
+/// assert_eq!(displacement(&mut code, WordPos(0), format::BRANCH_26, 0x10000000, ByteDistance(8)), Err(Refusal::WrongForm));
 /// ```
 #[inline]
 pub fn displacement(
@@ -254,7 +256,27 @@ pub fn displacement_to(
     after(position, ffi::displacement_to(bytes, position.0, format, base, target, address))
 }
 
-/// The distance that a word spells at a [`mod@format`], as Arm reads it.
+/// Whether a word has the fixed bits of an instruction of a [`mod@format`], whatever its field holds. [`displacement`] and
+/// [`displacement_to`] take such words only.
+///
+/// # Errors
+/// [`Refusal::Unknown`] for a format above 5.
+///
+/// ```
+/// use vaimalofo::{format, has_form, Refusal};
+///
+/// assert_eq!(has_form(format::BRANCH_19, 0x54000000), Ok(true));
+/// // BC.cond is none, and neither is an LDR that Arm leaves unallocated.
+/// assert_eq!(has_form(format::BRANCH_19, 0x54000010), Ok(false));
+/// assert_eq!(has_form(format::LDR_19, 0xDC000000), Ok(false));
+/// assert_eq!(has_form(6, 0x54000000), Err(Refusal::Unknown));
+/// ```
+#[inline]
+pub fn has_form(format: u32, word: u32) -> Result<bool, Refusal> {
+    Ok(answer(ffi::has_form(format, word))? == 1)
+}
+
+/// The distance that any word spells at a [`mod@format`], as Arm reads it there.
 ///
 /// # Errors
 /// [`Refusal::Unknown`] for a format above 5.

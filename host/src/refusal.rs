@@ -37,11 +37,13 @@ pub enum Refusal {
     Index = 9,
     /// 10: the base opcode is zero. No function of this package gives it.
     ZeroBase = 10,
+    /// 11: the base word is not an instruction of this format.
+    WrongForm = 11,
 }
 
 impl Refusal {
-    /// All ten, in the order of their numbers.
-    pub const ALL: [Refusal; 10] = [
+    /// All of them, in the order of their numbers.
+    pub const ALL: [Refusal; 11] = [
         Refusal::Width,
         Refusal::Register,
         Refusal::NoField,
@@ -52,6 +54,7 @@ impl Refusal {
         Refusal::NoRoom,
         Refusal::Index,
         Refusal::ZeroBase,
+        Refusal::WrongForm,
     ];
 
     /// The number that stands for it at the C entries.
@@ -59,10 +62,10 @@ impl Refusal {
         self as u8
     }
 
-    /// The refusal of a number from 1 to 10.
+    /// The refusal of a number from 1 to 11.
     pub const fn from_number(number: u8) -> Option<Refusal> {
         match number {
-            1..=10 => Some(Refusal::ALL[number as usize - 1]),
+            1..=11 => Some(Refusal::ALL[number as usize - 1]),
             _ => None,
         }
     }
@@ -84,6 +87,7 @@ impl Refusal {
             }
             Refusal::Index => "the element index is above its limit",
             Refusal::ZeroBase => "the base opcode is zero",
+            Refusal::WrongForm => "the base word is not an instruction of this format",
         }
     }
 }

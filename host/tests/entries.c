@@ -93,12 +93,17 @@ static void displacements(void) {
     wrote("page", &w, vaimalofo_displacement_to(w.run, w.length, 0, VAIMALOFO_ADRP_21, 0x90000000, 0x3000, 0x1234), 0, 1, page);
     watch(&w, 2, 1);
     refused("disp 7", &w, vaimalofo_displacement(w.run, w.length, 2, 6, 0xFFFFFFFF, 1), VAIMALOFO_UNKNOWN);
-    refused("disp 6", &w, vaimalofo_displacement(w.run, w.length, 2, 0, 0xFFFFFFFF, 1), VAIMALOFO_TAKEN);
+    refused("disp 11", &w, vaimalofo_displacement(w.run, w.length, 2, 0, 0xFFFFFFFF, 1), VAIMALOFO_WRONG_FORM);
+    refused("disp 6", &w, vaimalofo_displacement(w.run, w.length, 2, 0, 0x14000001, 1), VAIMALOFO_TAKEN);
     refused("disp 4", &w, vaimalofo_displacement(w.run, w.length, 2, 0, 0x14000000, INT64_MAX), VAIMALOFO_STEP);
     refused("disp 5", &w, vaimalofo_displacement(w.run, w.length, 2, 0, 0x14000000, INT64_MIN), VAIMALOFO_RANGE);
     refused("disp 8", &w, vaimalofo_displacement(w.run, w.length, 2, 0, 0x14000000, 0), VAIMALOFO_NO_ROOM);
     refused("to 7", &w, vaimalofo_displacement_to(w.run, w.length, 2, 6, 0xFFFFFFFF, 1, 0), VAIMALOFO_UNKNOWN);
+    refused("to 11", &w, vaimalofo_displacement_to(w.run, w.length, 2, 0, 0x10000000, 1, 0), VAIMALOFO_WRONG_FORM);
     refused("to 5", &w, vaimalofo_displacement_to(w.run, w.length, 2, 0, 0x14000000, 0, 134217732), VAIMALOFO_RANGE);
+    same("form, yes", vaimalofo_value(vaimalofo_has_form(VAIMALOFO_BRANCH_26, 0x17FFFFFF)), 1);
+    same("form, no", (int64_t)vaimalofo_has_form(VAIMALOFO_ADR_21, 0x17FFFFFF), 0);
+    same("form 7", (int64_t)vaimalofo_has_form(6, 0x17FFFFFF), VAIMALOFO_UNKNOWN);
     same("read", vaimalofo_value(vaimalofo_read_displacement(0x17FFFFFF, 0)), -4);
     same("read, refusal", vaimalofo_refusal(vaimalofo_read_displacement(0x17FFFFFF, 0)), 0);
     same("read least", vaimalofo_value(vaimalofo_read_displacement(0x90800000, 4)), INT64_C(-4294967296));

@@ -1,7 +1,7 @@
 //! Every function, every refusal in its order, and the bytes around what is written.
 
 use vaimalofo::{
-    displacement, displacement_to, format, logical_fields, logical_word, mov, operation,
+    displacement, displacement_to, format, has_form, logical_fields, logical_word, mov, operation,
     patchable_mov, read_displacement, words, ByteDistance, Fields, Logical, Refusal, WordPos,
 };
 
@@ -198,6 +198,74 @@ fn displacements() {
         });
         refused(Refusal::Unknown, |run, at| displacement_to(run, at, format, u32::MAX, 1, 0));
         assert_eq!(read_displacement(0, format), Err(Refusal::Unknown));
+        assert_eq!(has_form(format, 0x14000000), Err(Refusal::Unknown));
+    }
+}
+
+/// Every instruction that has a displacement, its field clear, by format.
+const INSTRUCTIONS: [&[u32]; 6] = [
+    &[0x14000000, 0x94000000],
+    &[0x5400000D, 0x34000005, 0x35000005, 0xB4000005, 0xB500001F],
+    &[0x36000000, 0x37F8001F, 0xB6080001, 0xB7000002],
+    &[0x1000001F],
+    &[0x9000001F],
+    &[0x18000001, 0x58000002, 0x98000003, 0xD8000004, 0x1C000005, 0x5C000006, 0x9C00001F],
+];
+
+#[test]
+fn an_instruction_is_a_base_at_its_own_format_only() {
+    for (own, bases) in (0..).zip(INSTRUCTIONS) {
+        for base in bases.iter().copied() {
+            for format in 0..6 {
+                assert_eq!(has_form(format, base), Ok(format == own), "{base:08x} at {format}");
+                if format != own {
+                    refused(Refusal::WrongForm, |run, at| {
+                        displacement(run, at, format, base, ByteDistance(i64::MAX))
+                    });
+                    refused(Refusal::WrongForm, |run, at| {
+                        displacement_to(run, at, format, base, u64::MAX, 0)
+                    });
+                }
+            }
+            at_every_place(&[base], |run, at| displacement(run, at, own, base, ByteDistance(0)));
+        }
+    }
+}
+
+/// The bits that tell the instructions of a format: in the top byte, and bit 4 of a B.cond.
+#[test]
+fn a_fixed_bit_turned_over_is_another_instruction() {
+    let bits = [0x7C000000, 0xFF000010, 0x7E000000, 0x9F000000, 0x9F000000, 0x3B000000];
+    for ((format, bases), fixed) in (0..).zip(INSTRUCTIONS).zip(bits) {
+        for bit in (0..32).map(|bit| 1 << bit).filter(|bit| fixed & bit != 0) {
+            let word = bases[0] ^ bit;
+            assert_eq!(has_form(format, word), Ok(false), "{word:08x} at {format}");
+            refused(Refusal::WrongForm, |run, at| {
+                displacement(run, at, format, word, ByteDistance(0))
+            });
+        }
+    }
+    for (format, word) in [(5, 0xDC000000), (1, 0x54000010), (1, 0x55000000), (0, 0), (5, u32::MAX)]
+    {
+        assert_eq!(has_form(format, word), Ok(false));
+    }
+}
+
+/// A word that was written is an instruction of its format, and taken for a base whose field is set.
+#[test]
+fn what_is_written_is_of_the_form_of_its_base() {
+    for ((format, _, step, least, _), bases) in FORMATS.into_iter().zip(INSTRUCTIONS) {
+        for base in bases.iter().copied() {
+            for distance in [least, -step, step] {
+                let mut run = [0; 4];
+                displacement(&mut run, WordPos(0), format, base, ByteDistance(distance)).unwrap();
+                let word = words(&run)[0];
+                assert_eq!(has_form(format, word), Ok(true));
+                refused(Refusal::Taken, |run, at| {
+                    displacement(run, at, format, word, ByteDistance(distance))
+                });
+            }
+        }
     }
 }
 
@@ -210,7 +278,7 @@ fn refusals_print_in_words() {
         assert!(refusal.to_string().starts_with(&format!("refusal {number}: ")));
     }
     assert_eq!(Refusal::from_number(0), None);
-    assert_eq!(Refusal::from_number(11), None);
+    assert_eq!(Refusal::from_number(12), None);
     let error: Box<dyn std::error::Error> = Box::new(Refusal::NoRoom);
     assert_eq!(
         error.to_string(),

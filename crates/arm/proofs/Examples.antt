@@ -1,6 +1,7 @@
 -- Worked values of Arm's definitions, each table one computed test: words that GNU as gave for the instruction beside them, and document 01's
 -- examples. Assumes nothing.
 use mathlib.Core.Path.{refl}
+use mathlib.Core.Bool.{true, false}
 use mathlib.Core.List.{List, [], _∷_}
 use mathlib.Core.Option.{Option, none, some}
 use Prim.Native.Nat.{ℕ, _+_, _-_, _^_}
@@ -10,6 +11,7 @@ use Rattle.arm.specs.BitMasks.{highestSetBit, len, esize, Legal, wmask}
 use Rattle.arm.specs.LogicalImmediate.{LogicalOp, AND, ORR, EOR, ANDS, Logical, defined, decodeLogical}
 use Rattle.arm.specs.MoveWide.{decode, Regs, exec, run}
 use Rattle.arm.specs.Displacements.{B, Bcond, TBZ, ADR, ADRP, LDR}
+use Rattle.arm.specs.FixedBits.{isB, isBcond, isCBZ, isTBZ, isADR, isADRP, isLDR}
 use Rattle.arm.specs.Immediates.{VFPExpandImm, byteMasks, ByteMask}
 use Rattle.arm.proofs.Worked.{Worked}
 
@@ -137,6 +139,77 @@ pub displacements :
     ∷ (LDR 0x18800005, 2 ^ 64 - 1048576)  -- ldr w5, .-1048576
     ∷ [])
 displacements = refl
+
+-- ---- the fixed bits: words that GNU as gave, and words that are one fixed bit away
+
+pub fixed :
+    Worked
+    ((isB 0x14000001, true)  -- b .+4
+    ∷ (isB 0x97FFFFFF, true)  -- bl .-4
+    ∷ (isB 0x54000000, false)  -- bits 30 to 26, each turned over
+    ∷ (isB 0x34000000, false)
+    ∷ (isB 0x04000000, false)
+    ∷ (isB 0x1C000000, false)
+    ∷ (isB 0x10000000, false)
+    ∷ (isBcond 0x54000040, true)  -- b.eq .+8
+    ∷ (isBcond 0x54FFFFCF, true)  -- b.nv .-8
+    ∷ (isBcond 0x54000051, false)  -- bc.ne .+8
+    ∷ (isBcond 0xD4000000, false)  -- bits 31 to 24 and bit 4
+    ∷ (isBcond 0x14000000, false)
+    ∷ (isBcond 0x74000000, false)
+    ∷ (isBcond 0x44000000, false)
+    ∷ (isBcond 0x5C000000, false)
+    ∷ (isBcond 0x50000000, false)
+    ∷ (isBcond 0x56000000, false)
+    ∷ (isBcond 0x55000000, false)
+    ∷ (isBcond 0x54000010, false)
+    ∷ (isCBZ 0x34000020, true)  -- cbz w0, .+4
+    ∷ (isCBZ 0xB5FFFFFE, true)  -- cbnz x30, .-4
+    ∷ (isCBZ 0x74000000, false)  -- bits 30 to 25
+    ∷ (isCBZ 0x14000000, false)
+    ∷ (isCBZ 0x24000000, false)
+    ∷ (isCBZ 0x3C000000, false)
+    ∷ (isCBZ 0x30000000, false)
+    ∷ (isCBZ 0x36000000, false)
+    ∷ (isTBZ 0x361BFFE1, true)  -- tbz w1, #3, .+32764
+    ∷ (isTBZ 0xB71C0001, true)  -- tbnz x1, #35, .-32768
+    ∷ (isTBZ 0x76000000, false)  -- bits 30 to 25
+    ∷ (isTBZ 0x16000000, false)
+    ∷ (isTBZ 0x26000000, false)
+    ∷ (isTBZ 0x3E000000, false)
+    ∷ (isTBZ 0x32000000, false)
+    ∷ (isTBZ 0x34000000, false)
+    ∷ (isADR 0x30000020, true)  -- adr x0, .+5
+    ∷ (isADR 0x70FFFFFF, true)  -- adr xzr, .-1
+    ∷ (isADR 0x90000000, false)  -- bit 31, bits 28 to 24
+    ∷ (isADR 0x00000000, false)
+    ∷ (isADR 0x18000000, false)
+    ∷ (isADR 0x14000000, false)
+    ∷ (isADR 0x12000000, false)
+    ∷ (isADR 0x11000000, false)
+    ∷ (isADRP 0xB0000007, true)  -- adrp x7, the next page
+    ∷ (isADRP 0xF0FFFFE0, true)  -- adrp x0, the page before
+    ∷ (isADRP 0x10000000, false)  -- bit 31, bits 28 to 24
+    ∷ (isADRP 0x80000000, false)
+    ∷ (isADRP 0x98000000, false)
+    ∷ (isADRP 0x94000000, false)
+    ∷ (isADRP 0x92000000, false)
+    ∷ (isADRP 0x91000000, false)
+    ∷ (isLDR 0x18000045, true)  -- ldr w5, .+8
+    ∷ (isLDR 0x58000040, true)  -- ldr x0, .+8
+    ∷ (isLDR 0x98FFFFC2, true)  -- ldrsw x2, .-8
+    ∷ (isLDR 0xD800009F, true)  -- prfm #31, .+16
+    ∷ (isLDR 0x1C000043, true)  -- ldr s3, .+8
+    ∷ (isLDR 0x5CFFFFC4, true)  -- ldr d4, .-8
+    ∷ (isLDR 0x9C00009F, true)  -- ldr q31, .+16
+    ∷ (isLDR 0xDC000000, false)  -- unallocated
+    ∷ (isLDR 0x78000000, false)  -- bits 29 to 27, bits 25 and 24
+    ∷ (isLDR 0x48000000, false)
+    ∷ (isLDR 0x50000000, false)
+    ∷ (isLDR 0x5A000000, false)
+    ∷ (isLDR 0x59000000, false)
+    ∷ [])
+fixed = refl
 
 -- ---- VFPExpandImm: the immediates of FMOV
 

@@ -4,6 +4,7 @@ pub mod BitMasks
 pub mod MoveWide
 pub mod LogicalImmediate
 pub mod Displacements
+pub mod FixedBits
 pub mod Immediates
 -- not Arm's: what the contracts of private functions cite
 pub mod Elements

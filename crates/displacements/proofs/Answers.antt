@@ -1,6 +1,6 @@
 -- The cases of what is said, each from its event and back. Assumes nothing.
 use mathlib.Core.Path.{_≡_, refl, sym, ap, _∙_}
-use mathlib.Core.Bool.{Bool, true, false, cond, _||_}
+use mathlib.Core.Bool.{Bool, true, false, cond, not, _||_}
 use mathlib.Core.List.{List, [], _∷_}
 use Prim.Native.Nat.{ℕ, _+_, _-_, _%_, _^_, _<_, _≤_, _∣_}
 use native.Mathlib.Nat.{dvd-mul-left, dvd-sub, dvd-of-mod-eq-zero, le-of-dvd}
@@ -11,12 +11,13 @@ use lib.IntN.{ℤ, pos, negsuc, natAbs}
 use lib.Pow.{pow-add, pow-pos}
 use lib.Signed.{mag, ltZ}
 use Rattle.words.specs.Said.{Said, ok, no}
-use Rattle.words.proofs.Answers.{Short, Alone, alone-short}
+use Rattle.arm.proofs.Tests.{never}
+use Rattle.words.proofs.Answers.{Short, Alone, Numbered, alone-short}
 use Rattle.displacements.specs.declared.Form.{Form}
 use Rattle.displacements.specs.Forms.{formOf, fieldIn, putIn, step, reach, least, greatest}
-use Rattle.displacements.specs.Answer.{placeSaid, stepsOf, dispSaid}
+use Rattle.displacements.specs.Answer.{hasForm, placeSaid, stepsOf, dispSaid}
 use Rattle.displacements.specs.Private.{Sound}
-use Rattle.displacements.specs.Says.{Says, unknown, taken, off, far, word, Free, OnStep, InRange}
+use Rattle.displacements.specs.Says.{Says, unknown, alien, taken, off, far, word, Formed, Based, Free, OnStep, InRange}
 
 -- ---- document 01's range: on the step, in reach is from the least to the greatest distance
 
@@ -104,36 +105,61 @@ known {n} e = omega (arith, ltb-false 5 n e)
 module _ (n b : ℕ) (d : ℤ) where
   pub says : Says n b d (dispSaid n b d)
   unfolding placeSaid
-  says = go (ltb 5 n) (ltb 0 (fieldIn (formOf n) b)) (ltb 0 (natAbs d % step (formOf n))) (outside (formOf n) d) refl refl refl refl
+  says = go (ltb 5 n) (hasForm n b) (ltb 0 (fieldIn (formOf n) b)) (ltb 0 (natAbs d % step (formOf n))) (outside (formOf n) d) refl refl refl refl refl
     where
-      go : (u x y z : Bool) → ltb 5 n ≡ u → ltb 0 (fieldIn (formOf n) b) ≡ x → ltb 0 (natAbs d % step (formOf n)) ≡ y → outside (formOf n) d ≡ z
-          → Says n b d (cond u (no 7) (cond x (no 6) (cond y (no 4) (cond z (no 5) (ok (putIn (formOf n) b (stepsOf (formOf n) d) ∷ []))))))
-      go true x y z eu ex ey ez = unknown (ltb-true 5 n eu)
-      go false true y z eu ex ey ez = taken (known eu) (some ex)
-      go false false true z eu ex ey ez = off (known eu) (none ex) (some ey)
-      go false false false true eu ex ey ez = far (known eu) (none ex) (none ey) (not-in-range (formOf n) d ez)
-      go false false false false eu ex ey ez = word (known eu) (none ex) (none ey) (in-range (formOf n) d ez)
+      go : (u v x y z : Bool) → ltb 5 n ≡ u → hasForm n b ≡ v → ltb 0 (fieldIn (formOf n) b) ≡ x → ltb 0 (natAbs d % step (formOf n)) ≡ y → outside (formOf n) d ≡ z
+          → Says n b d (cond u (no 7) (cond (not v) (no 11) (cond x (no 6) (cond y (no 4) (cond z (no 5) (ok (putIn (formOf n) b (stepsOf (formOf n) d) ∷ [])))))))
+      go true v x y z eu ev ex ey ez = unknown (ltb-true 5 n eu)
+      go false false x y z eu ev ex ey ez = alien (known eu) (λ e. never (sym e ∙ ev))
+      go false true true y z eu ev ex ey ez = taken (record { at = known eu; form = ev }) (some ex)
+      go false true false true z eu ev ex ey ez = off (record { at = known eu; form = ev }) (none ex) (some ey)
+      go false true false false true eu ev ex ey ez = far (record { at = known eu; form = ev }) (none ex) (none ey) (not-in-range (formOf n) d ez)
+      go false true false false false eu ev ex ey ez = word (record { at = known eu; form = ev }) (none ex) (none ey) (in-range (formOf n) d ez)
 
-  at-form : n < 6 → dispSaid n b d ≡ placeSaid (formOf n) b d
-  at-form h = simp (le-ltb 5 n (omega arith))
+  -- a format there is
+  pub at-known : n < 6 → dispSaid n b d ≡ cond (not (hasForm n b)) (no 11) (placeSaid (formOf n) b d)
+  at-known h = simp (le-ltb 5 n (omega arith))
+
+  not-formed : (Formed n b → ⊥) → hasForm n b ≡ false
+  not-formed h = go (hasForm n b) refl
+    where
+      go : (v : Bool) → hasForm n b ≡ v → v ≡ false
+      go true e = absurd (h e)
+      go false e = refl
+
+  at-base : Based n b → dispSaid n b d ≡ placeSaid (formOf n) b d
+  at-base h = at-known (h .at) ∙ simp (h .form)
 
   pub answers : {a : Said (List ℕ)} → Says n b d a → dispSaid n b d ≡ a
   answers (unknown h) = simp (lt-ltb 5 n h)
-  answers (taken h t) = at-form h ∙ place-taken (formOf n) b d t
-  answers (off h free o) = at-form h ∙ place-off (formOf n) b d free o
-  answers (far h free on r) = at-form h ∙ place-far (formOf n) b d free on (outside-range (formOf n) d r)
-  answers (word h free on r) = at-form h ∙ place-word (formOf n) b d free on (inside-range (formOf n) d r)
+  answers (alien h o) = at-known h ∙ simp (not-formed o)
+  answers (taken h t) = at-base h ∙ place-taken (formOf n) b d t
+  answers (off h free o) = at-base h ∙ place-off (formOf n) b d free o
+  answers (far h free on r) = at-base h ∙ place-far (formOf n) b d free on (outside-range (formOf n) d r)
+  answers (word h free on r) = at-base h ∙ place-word (formOf n) b d free on (inside-range (formOf n) d r)
 
--- one word
+-- one word, or a refusal's number
 pub alone : (n b : ℕ) (d : ℤ) → Alone (dispSaid n b d)
 alone n b d = go (says n b d)
   where
     go : {a : Said (List ℕ)} → Says n b d a → Alone a
     go (unknown h) = tt
+    go (alien h o) = tt
     go (taken h t) = tt
     go (off h free o) = tt
     go (far h free on r) = tt
     go (word h free on r) = refl
+
+pub numbered : (n b : ℕ) (d : ℤ) → Numbered (dispSaid n b d)
+numbered n b d = go (says n b d)
+  where
+    go : {a : Said (List ℕ)} → Says n b d a → Numbered a
+    go (unknown h) = omega arith
+    go (alien h o) = omega arith
+    go (taken h t) = omega arith
+    go (off h free o) = omega arith
+    go (far h free on r) = omega arith
+    go (word h free on r) = tt
 
 pub short : (n b : ℕ) (d : ℤ) → Short (dispSaid n b d)
 short n b d = alone-short (dispSaid n b d) (alone n b d)

@@ -1,7 +1,7 @@
 -- What was asked of displacements, over the definitions that the contracts cite. Assumes nothing.
 use mathlib.Core.Path.{_≡_, refl, sym, ap, subst, _∙_}
 use mathlib.Core.Logic.{_⊎_, inl, inr, ⊎-elim, _↔_}
-use mathlib.Core.Bool.{Bool, true, false, cond}
+use mathlib.Core.Bool.{Bool, true, false, cond, not}
 use mathlib.Core.List.{List, [], _∷_}
 use Prim.Native.Nat.{ℕ, _+_, _-_, _*_, _/_, _%_, _^_, _<_, _≤_}
 use native.Mathlib.Nat.{mod-lt, mul-pos, eq-zero-or-pos, zero-mod, zero-div, zero-mul, add-zero, lt-of-lt-of-le}
@@ -16,6 +16,7 @@ use lib.Signed.{mag}
 use mir.Syntax.{w64}
 use mir.Val.{SFits, ofZ}
 use mir.Facts.{toZ-ofZ, ofZ-toZ, sfits-toZ}
+use Rattle.arm.specs.FixedBits.{isBcond, isCBZ}
 use Rattle.arm.proofs.SignExtends.{extend, extended}
 use Rattle.words.specs.Said.{Said, ok, no}
 use Rattle.writers.specs.Put.{putOf}
@@ -24,12 +25,13 @@ use Rattle.words.proofs.Fields.{part, bit, bit-of-clear, clear-of-bits}
 use Rattle.writers.proofs.Writes.{put-full, put-fits, put-done}
 use Rattle.displacements.specs.declared.Form.{Form}
 use Rattle.displacements.specs.Forms.{forms, formOf, fieldIn, putIn, step, reach, least, greatest}
-use Rattle.displacements.specs.Answer.{stepsOf, placeSaid, dispSaid, originOf, between, targetSaid, offset, readSaid}
+use Rattle.displacements.specs.Answer.{hasForm, formSaid, stepsOf, placeSaid, dispSaid, originOf, between, targetSaid, offset, readSaid}
 use Rattle.displacements.specs.Private.{Sound, offsetIn}
-use Rattle.displacements.specs.Says.{Says, unknown, taken, off, far, word, Free, OnStep, InRange}
+use Rattle.displacements.specs.Says.{Says, unknown, alien, taken, off, far, word, Formed, Based, Free, OnStep, InRange}
 use Rattle.displacements.proofs.Laws.{sound, arm-reads, Outside, put-there, put-kept, rest-free, lows-free}
 use Rattle.displacements.proofs.Distances.{steps-bits, bits-steps, steps-back}
 use Rattle.displacements.proofs.Answers.{says, answers}
+use Rattle.displacements.proofs.Instructions.{one-form, forms-kept, conds-kept}
 
 -- ---- the table is document 01's: step, least, greatest
 
@@ -52,7 +54,7 @@ pub the-table : rows forms ≡
     ∷ []
 the-table = refl
 
--- ---- each thing is said exactly in its event, in the order 7, 6, 4, 5
+-- ---- each thing is said exactly in its event, in the order 7, 11, 6, 4, 5
 
 module _ (n b : ℕ) (d : ℤ) where
   pub exactly : (a : Said (List ℕ)) → (dispSaid n b d ≡ a) ↔ Says n b d a
@@ -64,32 +66,44 @@ module _ (n b : ℕ) (d : ℤ) where
       go : Says n b d (no 7) → 6 ≤ n
       go (unknown h) = h
 
-  pub exactly-6 : (dispSaid n b d ≡ no 6) ↔ ((n < 6) × (Free (formOf n) b → ⊥))
+  -- 11 exactly if the base is not of the format's form
+  pub exactly-11 : (dispSaid n b d ≡ no 11) ↔ ((n < 6) × (Formed n b → ⊥))
+  exactly-11 = (λ e. go (exactly (no 11) .0 e), λ h. answers n b d (alien (h .0) (h .1)))
+    where
+      go : Says n b d (no 11) → (n < 6) × (Formed n b → ⊥)
+      go (alien h o) = (h, o)
+
+  pub exactly-6 : (dispSaid n b d ≡ no 6) ↔ (Based n b × (Free (formOf n) b → ⊥))
   exactly-6 = (λ e. go (exactly (no 6) .0 e), λ h. answers n b d (taken (h .0) (h .1)))
     where
-      go : Says n b d (no 6) → (n < 6) × (Free (formOf n) b → ⊥)
+      go : Says n b d (no 6) → Based n b × (Free (formOf n) b → ⊥)
       go (taken h t) = (h, t)
 
-  pub exactly-4 : (dispSaid n b d ≡ no 4) ↔ ((n < 6) × Free (formOf n) b × (OnStep (formOf n) d → ⊥))
+  pub exactly-4 : (dispSaid n b d ≡ no 4) ↔ (Based n b × Free (formOf n) b × (OnStep (formOf n) d → ⊥))
   exactly-4 = (λ e. go (exactly (no 4) .0 e), λ h. answers n b d (off (h .0) (h .1) (h .2)))
     where
-      go : Says n b d (no 4) → (n < 6) × Free (formOf n) b × (OnStep (formOf n) d → ⊥)
+      go : Says n b d (no 4) → Based n b × Free (formOf n) b × (OnStep (formOf n) d → ⊥)
       go (off h free o) = (h, free, o)
 
-  pub exactly-5 : (dispSaid n b d ≡ no 5) ↔ ((n < 6) × Free (formOf n) b × OnStep (formOf n) d × (InRange (formOf n) d → ⊥))
+  pub exactly-5 : (dispSaid n b d ≡ no 5) ↔ (Based n b × Free (formOf n) b × OnStep (formOf n) d × (InRange (formOf n) d → ⊥))
   exactly-5 = (λ e. go (exactly (no 5) .0 e), λ h. answers n b d (far (h .0) (h .1) (h .2) (h .3)))
     where
-      go : Says n b d (no 5) → (n < 6) × Free (formOf n) b × OnStep (formOf n) d × (InRange (formOf n) d → ⊥)
+      go : Says n b d (no 5) → Based n b × Free (formOf n) b × OnStep (formOf n) d × (InRange (formOf n) d → ⊥)
       go (far h free on r) = (h, free, on, r)
 
-  pub no-other : (k : ℕ) → dispSaid n b d ≡ no k → (k ≡ 7) ⊎ (k ≡ 6) ⊎ (k ≡ 4) ⊎ (k ≡ 5)
+  pub no-other : (k : ℕ) → dispSaid n b d ≡ no k → (k ≡ 7) ⊎ (k ≡ 11) ⊎ (k ≡ 6) ⊎ (k ≡ 4) ⊎ (k ≡ 5)
   no-other k e = go k (exactly (no k) .0 e)
     where
-      go : (k : ℕ) → Says n b d (no k) → (k ≡ 7) ⊎ (k ≡ 6) ⊎ (k ≡ 4) ⊎ (k ≡ 5)
+      go : (k : ℕ) → Says n b d (no k) → (k ≡ 7) ⊎ (k ≡ 11) ⊎ (k ≡ 6) ⊎ (k ≡ 4) ⊎ (k ≡ 5)
       go k (unknown h) = inl refl
-      go k (taken h t) = inr (inl refl)
-      go k (off h free o) = inr (inr (inl refl))
-      go k (far h free on r) = inr (inr (inr refl))
+      go k (alien h o) = inr (inl refl)
+      go k (taken h t) = inr (inr (inl refl))
+      go k (off h free o) = inr (inr (inr (inl refl)))
+      go k (far h free on r) = inr (inr (inr (inr refl)))
+
+  -- a base of one form at another's format: the branch distance in an ADR word
+  pub other-form : (m : ℕ) → m < 6 → Formed m b → n < 6 → (n ≡ m → ⊥) → dispSaid n b d ≡ no 11
+  other-form m k f h o = exactly-11 .1 (h, λ g. o (one-form b n m h k g f))
 
 -- ---- a bit of the field is set, or none is
 
@@ -105,7 +119,7 @@ apart p n q h = go (ltb q p) refl
     go false e = let past : q < p + n → ⊥ = h (ltb-false q p e) in inr (omega arith)
 
 outside-bit : (f : Form) (q : ℕ) → (Inside f q → ⊥) → Outside f q 1
-outside-bit f q h = record { rest = apart (f .at) (f .bits - f .low) q (λ lo hi. h (inl (lo, hi))); lows = apart 29 (f .low) q (λ lo hi. h (inr (lo, hi))) }
+outside-bit f q h = record { rest = apart (f .at) (f .bits - f .low) q (λ lo hi. h (inl (lo, hi))); lows = inr (apart 29 (f .low) q (λ lo hi. h (inr (lo, hi)))) }
 
 module _ (n : ℕ) (h : n < 6) (b : ℕ) where
   pub free-bits : Free (formOf n) b ↔ ((q : ℕ) → Inside (formOf n) q → bit q b ≡ 0)
@@ -118,8 +132,8 @@ module _ (n : ℕ) (h : n < 6) (b : ℕ) where
       )
 
   -- "6 where the base word already has a bit set in the field"
-  pub set-bit : (d : ℤ) (q : ℕ) → Inside (formOf n) q → bit q b ≡ 1 → dispSaid n b d ≡ no 6
-  set-bit d q i e = exactly-6 n b d .1 (h, λ free. omega (arith, free-bits .0 free q i))
+  pub set-bit : (d : ℤ) (q : ℕ) → Formed n b → Inside (formOf n) q → bit q b ≡ 1 → dispSaid n b d ≡ no 6
+  set-bit d q f i e = exactly-6 n b d .1 (record { at = h; form = f }, λ free. omega (arith, free-bits .0 free q i))
 
   -- the field is clear exactly if Arm reads the distance 0 from the word
   pub clear-is-zero : Free (formOf n) b ↔ (offset n b ≡ 0)
@@ -132,7 +146,7 @@ module _ (n : ℕ) (h : n < 6) (b : ℕ) where
       only f = ⊎-elim (λ e _. e) (λ p e. absurd (extended (f .bits + f .scale) (fieldIn f b * step f) (mul-pos p (pow-pos (f .scale))) e))
 
 -- the distance 0 is on every step and in every range: it asks for the base alone, and gives it back
-pub asks-base : (n b : ℕ) → dispSaid n b (pos 0) ≡ cond (ltb 5 n) (no 7) (cond (ltb 0 (fieldIn (formOf n) b)) (no 6) (ok (b ∷ [])))
+pub asks-base : (n b : ℕ) → dispSaid n b (pos 0) ≡ cond (ltb 5 n) (no 7) (cond (not (hasForm n b)) (no 11) (cond (ltb 0 (fieldIn (formOf n) b)) (no 6) (ok (b ∷ []))))
 unfolding placeSaid
 asks-base n b =
     let f = formOf n in
@@ -161,7 +175,7 @@ module _ (f : Form) (s : Sound f) (b : ℕ) (d : ℤ) (free : Free f b) where
 
 -- what is known of a word that was made
 record Word (n b : ℕ) (d : ℤ) (w : ℕ) : Type 0 where
-  at : n < 6
+  base : Based n b
   free : Free (formOf n) b
   on : OnStep (formOf n) d
   range : InRange (formOf n) d
@@ -172,23 +186,35 @@ module _ (n b : ℕ) (d : ℤ) (w : ℕ) (e : dispSaid n b d ≡ ok (w ∷ [])) 
   known = go w (exactly n b d (ok (w ∷ [])) .0 e)
     where
       go : (w : ℕ) → Says n b d (ok (w ∷ [])) → Word n b d w
-      go w (word h f o r) = record { at = h; free = f; on = o; range = r; is = refl }
+      go w (word h f o r) = record { base = h; free = f; on = o; range = r; is = refl }
 
   -- Arm takes from the word the distance that was asked for
   pub arm-reads-back : offset n w ≡ ofZ w64 d
-  arm-reads-back = sym (arm-reads w n (known .at)) ∙ rw (known .is) (reads-at (formOf n) (sound n (known .at)) b d (known .free) (known .on) (known .range))
+  arm-reads-back = sym (arm-reads w n (known .base .at)) ∙ rw (known .is) (reads-at (formOf n) (sound n (known .base .at)) b d (known .free) (known .on) (known .range))
 
   -- and so does the reader
   pub read-back : readSaid w n ≡ ok d
-  read-back = simp (le-ltb 5 n (omega (arith, known .at)), arm-reads-back, toZ-ofZ (fits-at (formOf n) (sound n (known .at)) b d (known .free) (known .range)))
+  read-back = simp (le-ltb 5 n (omega (arith, known .base .at)), arm-reads-back, toZ-ofZ (fits-at (formOf n) (sound n (known .base .at)) b d (known .free) (known .range)))
 
   -- every part of the word outside the field is the base's
   pub kept : (q l : ℕ) → Outside (formOf n) q l → part q l w ≡ part q l b
-  kept q l o = rw (known .is) (kept-at (formOf n) (sound n (known .at)) b d (known .free) q l o)
+  kept q l o = rw (known .is) (kept-at (formOf n) (sound n (known .base .at)) b d (known .free) q l o)
 
   -- and so is every bit that is none of the field's
   pub kept-bit : (q : ℕ) → (Inside (formOf n) q → ⊥) → bit q w ≡ bit q b
   kept-bit q h = kept q 1 (outside-bit (formOf n) q h)
+
+  -- the fixed bits are outside the field: the word is of the form of its base
+  pub form-kept : Formed n w
+  form-kept = forms-kept w b n (known .base .at) kept ∙ known .base .form
+
+  -- so the test says yes to it
+  pub form-yes : formSaid n w ≡ ok true
+  form-yes = simp (le-ltb 5 n (omega (arith, known .base .at)), form-kept)
+
+  -- at format 1 a B.cond stays one, and a CBZ or CBNZ too
+  pub cond-kept : n ≡ 1 → (isBcond w ≡ isBcond b) × (isCBZ w ≡ isCBZ b)
+  cond-kept e = conds-kept w b (λ q l o. kept q l (subst (λ (m : ℕ). Outside (formOf m) q l) (sym e) o))
 
 -- ---- the target entry
 
@@ -260,6 +286,7 @@ module _ (ws : List ℕ) (at n b : ℕ) (d : ℤ) (p : ℕ) (ws′ : List ℕ) (
 
       go : {x : Said (List ℕ)} → Says n b d x → (ok p, ws′) ≡ putOf ws at x → Emitted ws at x p ws′
       go (unknown h) f = never 7 f
+      go (alien h o) f = never 11 f
       go (taken h t) f = never 6 f
       go (off h free o) f = never 4 f
       go (far h free on r) f = never 5 f

@@ -1,11 +1,12 @@
 -- Worked values: "Run only" of document 01, and values at the edges. Assumes nothing.
 use mathlib.Core.Path.{refl}
+use mathlib.Core.Bool.{true, false}
 use mathlib.Core.List.{[], _∷_}
 use Prim.Native.Nat.{_^_}
 use lib.IntN.{pos, negℤ}
 use Rattle.arm.proofs.Worked.{Worked}
 use Rattle.words.specs.Said.{ok, no}
-use Rattle.displacements.specs.Answer.{placeSaid, dispSaid, targetSaid, readSaid}
+use Rattle.displacements.specs.Answer.{hasForm, formSaid, placeSaid, dispSaid, targetSaid, readSaid}
 
 pub written-right :
     Worked
@@ -17,13 +18,33 @@ pub written-right :
     ∷ (dispSaid 0 0x14000000 (pos 134217730), no 4)  -- 4 before 5
     ∷ (dispSaid 4 0x90000000 (negℤ (pos (2 ^ 63))), no 5)
     ∷ (dispSaid 6 0x14000001 (pos 2), no 7)  -- 7 before all
+    ∷ (dispSaid 0 0x10000000 (pos 4), no 11)  -- a branch distance into an ADR word
+    ∷ (dispSaid 3 0x14000000 (pos 5), no 11)
+    ∷ (dispSaid 1 0x54000010 (pos 4), no 11)  -- BC.cond
+    ∷ (dispSaid 5 0xDC000000 (pos 4), no 11)  -- unallocated
+    ∷ (dispSaid 0 0x10000001 (pos 2), no 11)  -- 11 before 6, 4 and 5
+    ∷ (dispSaid 5 0xD8000003 (negℤ (pos 4)), ok (0xD8FFFFE3 ∷ []))  -- PRFM
+    ∷ (targetSaid 4 0x10000000 0x3000 0x1FFF, no 11)  -- an ADR word at ADRP
     ∷ (targetSaid 0 0x14000000 0 0xFFFFFFFFFFFFFFFC, ok (0x14000001 ∷ []))  -- over the end of the addresses
     ∷ (targetSaid 0 0x14000000 (2 ^ 63) 0, no 5)
     ∷ (targetSaid 4 0x90000000 0x3000 0x1FFF, ok (0xD0000000 ∷ []))  -- two pages on
     ∷ (targetSaid 4 0x90000000 0x3004 0x1000, no 4)  -- not on a page
     ∷ [])
-unfolding placeSaid
+unfolding placeSaid hasForm
 written-right = refl
+
+pub forms-right :
+    Worked
+    ((formSaid 0 0x17FFFFFF, ok true)  -- whatever the field holds
+    ∷ (formSaid 1 0x17FFFFFF, ok false)
+    ∷ (formSaid 1 0x54FFFFCF, ok true)
+    ∷ (formSaid 1 0xB5FFFFFE, ok true)
+    ∷ (formSaid 5 0x9C00009F, ok true)
+    ∷ (formSaid 5 0xDC00009F, ok false)
+    ∷ (formSaid 6 0x14000000, no 7)
+    ∷ [])
+unfolding hasForm
+forms-right = refl
 
 pub read-right :
     Worked
@@ -31,6 +52,7 @@ pub read-right :
     ∷ (readSaid 0x58000040 5, ok (pos 8))
     ∷ (readSaid 0x30000020 3, ok (pos 5))
     ∷ (readSaid 0x90800000 4, ok (negℤ (pos 4294967296)))
+    ∷ (readSaid 0x10000020 0, ok (pos 128))  -- a word of another form
     ∷ (readSaid 0x14000000 6, no 7)
     ∷ [])
 read-right = refl

@@ -1,5 +1,5 @@
 -- The table's rule, and the field of a word at a format: what is put is read, and the rest is kept. Assumes nothing.
-use mathlib.Core.Path.{_≡_, _∙_}
+use mathlib.Core.Path.{_≡_, ap, _∙_}
 use mathlib.Core.Logic.{_⊎_, ⊎-elim}
 use Prim.Native.Nat.{ℕ, zero, suc, _+_, _-_, _*_, _/_, _%_, _^_, _<_, _≤_, min}
 use native.Mathlib.Nat.{mod-lt, lt-of-lt-of-le, mul-pos, eq-zero-or-pos, mod-one, mul-one, add-zero}
@@ -38,10 +38,10 @@ arm-reads w =
 
 -- ---- a field in two parts
 
--- the slice of l bits at bit q is no part of the field
+-- the slice of l bits at bit q is no part of the field, which may have no low bits
 pub record Outside (f : Form) (q l : ℕ) : Type 0 where
   pub rest : (q + l ≤ f .at) ⊎ (f .at + (f .bits - f .low) ≤ q)
-  pub lows : (q + l ≤ 29) ⊎ (29 + f .low ≤ q)
+  pub lows : (f .low ≡ 0) ⊎ (q + l ≤ 29) ⊎ (29 + f .low ≤ q)
 
 module _ (f : Form) (s : Sound f) where
   pub field-lt : (w : ℕ) → fieldIn f w < 2 ^ f .bits
@@ -108,9 +108,13 @@ module _ (f : Form) (s : Sound f) where
         part-there 29 (f .low) mid (v % 2 ^ f .low) mid-free lows-fits in
         rw (a, b) (split v (f .low))
 
+    -- no low bits, nothing at bit 29
+    none-low : f .low ≡ 0 → putIn f w v ≡ mid
+    none-low z = let none : v % 2 ^ f .low ≡ 0 = ap (λ (k : ℕ). v % 2 ^ k) z ∙ mod-one v in rw none (omega arith)
+
     pub put-kept : (q l : ℕ) → Outside f q l → part q l (putIn f w v) ≡ part q l w
     put-kept q l o =
-        ⊎-elim (part-below 29 q l mid (v % 2 ^ f .low)) (part-above 29 (f .low) mid (v % 2 ^ f .low) mid-free lows-fits q l) (o .lows)
+        ⊎-elim (λ z. ap (part q l) (none-low z)) (⊎-elim (part-below 29 q l mid (v % 2 ^ f .low)) (part-above 29 (f .low) mid (v % 2 ^ f .low) mid-free lows-fits q l)) (o .lows)
         ∙ ⊎-elim (part-below (f .at) q l w (v / 2 ^ f .low)) (part-above (f .at) (f .bits - f .low) w (v / 2 ^ f .low) (rest-free w free) rest-fits q l) (o .rest)
 
     -- nothing is carried out of the word

@@ -2,6 +2,7 @@
 pub mod Laws
 pub mod Distances
 pub mod Answers
+pub mod Instructions
 pub mod Demands
 pub mod Determined
 pub mod Examples

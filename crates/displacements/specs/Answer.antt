@@ -1,5 +1,5 @@
 -- What the entries say. Assumes nothing.
-use mathlib.Core.Bool.{cond, _||_}
+use mathlib.Core.Bool.{Bool, false, cond, not, _||_}
 use mathlib.Core.List.{List, [], _∷_}
 use Prim.Native.Nat.{ℕ, _+_, _-_, _/_, _%_, _^_}
 use lib.Dec.{eqb, ltb}
@@ -9,14 +9,33 @@ use lib.Signed.{ltZ}
 use mir.Syntax.{w64}
 use mir.Val.{toZ, ofZ}
 use Rattle.arm.specs.Displacements.{B, Bcond, TBZ, ADR, ADRP, LDR}
+use Rattle.arm.specs.FixedBits.{isB, isBcond, isCBZ, isTBZ, isADR, isADRP, isLDR}
 use Rattle.words.specs.Said.{Said, ok, no}
 use Rattle.words.specs.Answer.{numberOf}
 use Rattle.displacements.specs.declared.Form.{Form}
+use Rattle.displacements.specs.declared.FormAnswer.{FormAnswer}
+use Rattle.displacements.specs.declared.FormAnswer.the-variants.{OfForm, NoForm}
 use Rattle.displacements.specs.declared.DistanceAnswer.{DistanceAnswer}
 use Rattle.displacements.specs.declared.DistanceAnswer.the-variants.{Distance, NoDistance}
 use Rattle.displacements.specs.Forms.{formOf, fieldIn, putIn, step, least, greatest}
 
--- ---- writing: order 7, 6, 4, 5
+-- ---- the instructions of a format
+
+-- "the fixed bits of an instruction of that form (B and BL; B.cond, CBZ and CBNZ; TBZ and TBNZ; ADR; ADRP; LDR, LDRSW and PRFM literal, including
+-- the SIMD ones)"
+unfoldable pub hasForm : ℕ → ℕ → Bool
+hasForm n w = getD (isB w ∷ (isBcond w || isCBZ w) ∷ isTBZ w ∷ isADR w ∷ isADRP w ∷ isLDR w ∷ []) n false
+
+-- whether a word has them, or refusal 7
+abbrev pub formSaid : ℕ → ℕ → Said Bool
+formSaid n w = cond (ltb 5 n) (no 7) (ok (hasForm n w))
+
+-- the test's answer says yes or no
+abbrev pub ofFormSaid : FormAnswer → Said Bool
+ofFormSaid (OfForm b) = ok b
+ofFormSaid (NoForm r) = no (numberOf r)
+
+-- ---- writing: order 7, 11, 6, 4, 5
 
 -- the number in the field: the distance's steps, modulo the field's values (ofZ w64 d is d modulo 2 ^ 64)
 abbrev pub stepsOf : Form → ℤ → ℕ
@@ -32,7 +51,10 @@ placeSaid f b d =
 
 -- the distance d into the base word b at format n
 abbrev pub dispSaid : ℕ → ℕ → ℤ → Said (List ℕ)
-dispSaid n b d = cond (ltb 5 n) (no 7) (placeSaid (formOf n) b d)
+dispSaid n b d =
+    cond (ltb 5 n) (no 7)
+    (cond (not (hasForm n b)) (no 11)
+    (placeSaid (formOf n) b d))
 
 -- ---- from a target and the address of the instruction
 

@@ -1,6 +1,7 @@
 -- Demand 2 at the host's boundary: what stands in the bytes after a call, by the entry's own contract and taken as words, does what was asked: run
--- by Arm, decoded by Arm, read by the reader. And a refusal is a number from 1 to 10. Assumes nothing.
+-- by Arm, decoded by Arm, read by the reader. And a refusal is one of the refusals' numbers. Assumes nothing.
 use mathlib.Core.Path.{_≡_, sym, ap, _∙_, subst}
+use mathlib.Core.Bool.{Bool}
 use mathlib.Core.List.{List, [], _∷_}
 use mathlib.Core.Option.{some}
 use Prim.Native.Nat.{ℕ, _+_, _*_, _^_, _%_, _≤_, _<_}
@@ -12,6 +13,7 @@ use lib.ListN.{length}
 use lib.Seq.{slice}
 use Rattle.arm.specs.MoveWide.{Regs, write, run}
 use Rattle.words.specs.Said.{Said, ok, no}
+use Rattle.words.specs.Answer.{lastNumber}
 use Rattle.words.proofs.Answers.{Alone, alone-word}
 use Rattle.writers.specs.Put.{wordsIn, putBytesOf}
 use Rattle.writers.proofs.Writes.{words-back}
@@ -25,23 +27,32 @@ use Rattle.moves.specs.Moves.{movSaid}
 use Rattle.moves.proofs.Demands.{mov-said}
 use Rattle.patchable_moves.specs.Patchable.{patchSaid}
 use Rattle.patchable_moves.proofs.Demands.{patch-said}
-use Rattle.displacements.specs.Answer.{dispSaid, originOf, between, targetSaid, readSaid, offset}
-use Rattle.displacements.proofs.Demands.{read-back, arrives}
+use Rattle.displacements.specs.Answer.{dispSaid, originOf, between, targetSaid, formSaid, readSaid, offset}
+use Rattle.displacements.proofs.Demands.{form-yes, read-back, arrives}
 use Rattle.displacements.proofs.Answers.{alone}
-use Rattle.host.specs.Number.{refusalIn, valueIn, Reads, counted, wordsFrom, wordAt, spelled}
-use Rattle.host.proofs.Demands.{Sane, Called, reads, stands, move-sane, patchable-sane, displacement-sane, word-sane, fields-read, distance-read}
+use Rattle.host.specs.Number.{refusalIn, valueIn, Reads, counted, wordsFrom, wordAt, spelled, yesNo}
+use Rattle.host.proofs.Demands.{Sane, Called, reads, stands, move-sane, patchable-sane, displacement-sane, word-sane, fields-read, form-read, distance-read}
 use Rattle.host.proofs.vaimalofo_move.Reads as move
 use Rattle.host.proofs.vaimalofo_patchable_move.Reads as patchable-move
 use Rattle.host.proofs.vaimalofo_logical_fields.Reads as logical-fields
 use Rattle.host.proofs.vaimalofo_logical_word.Reads as logical-word
 use Rattle.host.proofs.vaimalofo_displacement.Reads as displacement
 use Rattle.host.proofs.vaimalofo_displacement_to.Reads as displacement-to
+use Rattle.host.proofs.vaimalofo_has_form.Reads as has-form
 use Rattle.host.proofs.vaimalofo_read_displacement.Reads as read-displacement
 
--- a refusal is 1 to 10, and 0 where there is none
-in-range : (n : ℕ) (a : Said ℤ) → Reads n a → refusalIn n ≤ 10
+-- a refusal is 1 to the last number, and 0 where there is none
+in-range : (n : ℕ) (a : Said ℤ) → Reads n a → refusalIn n ≤ lastNumber
 in-range n (ok v) r = omega (arith, r .0)
-in-range n (no m) r = omega (arith, r .1, r .2)
+in-range n (no m) r = omega (arith, r .0 .1, r .1)
+
+-- the test, asked for a word at a format, says yes and refuses nothing
+abbrev pub Instruction : (word format : ℕ) → Type 0
+Instruction word format = (k : Lfts 0) (answer : ℕ) → has-form.Post k (format, (word, tt)) answer (format, (word, tt)) → (refusalIn answer ≡ 0) × (valueIn answer ≡ pos 1)
+
+formed : (word format base : ℕ) (distance : ℤ) → dispSaid format base distance ≡ ok (word ∷ []) → Instruction word format
+formed word format base distance e k answer p =
+    subst (λ (a : Said Bool). Reads answer (yesNo a)) (form-yes format base distance word e) (form-read format word answer p)
 
 -- the reader, asked for a word at a format, says the distance and refuses nothing
 abbrev pub Read : (word format : ℕ) → ℤ → Type 0
@@ -66,7 +77,7 @@ module _ (l : List ℕ) (at n : ℕ) (l′ : List ℕ) (x : Said (List ℕ)) (h 
   found-one : Alone x → refusalIn n ≡ 0 → x ≡ ok (wordAt n at l′ ∷ [])
   found-one a z = alone-word x (wordsFrom n at l′) a (found z)
 
-  refusal : refusalIn n ≤ 10
+  refusal : refusalIn n ≤ lastNumber
   refusal = in-range n (counted at (putBytesOf l at x .0)) (reads l at n l′ x h e)
 
 module _ (k : Lfts 1) (bytes bytes′ : RefT (List ℕ)) (position answer : ℕ) where
@@ -83,7 +94,7 @@ module _ (k : Lfts 1) (bytes bytes′ : RefT (List ℕ)) (position answer : ℕ)
     move-runs z v-is R =
         mov-said value register v-is R (wordsFrom answer position l′) (found l position answer l′ (movSaid value register) (move-sane value register) p z)
 
-    pub move-refusal : refusalIn answer ≤ 10
+    pub move-refusal : refusalIn answer ≤ lastNumber
     move-refusal = refusal l position answer l′ (movSaid value register) (move-sane value register) p
 
   module _ (value size register : ℕ)
@@ -93,7 +104,7 @@ module _ (k : Lfts 1) (bytes bytes′ : RefT (List ℕ)) (position answer : ℕ)
         patch-said value size register v-is R (wordsFrom answer position l′)
         (found l position answer l′ (patchSaid value size register) (patchable-sane value size register) p z)
 
-    pub patchable-move-refusal : refusalIn answer ≤ 10
+    pub patchable-move-refusal : refusalIn answer ≤ lastNumber
     patchable-move-refusal = refusal l position answer l′ (patchSaid value size register) (patchable-sane value size register) p
 
   -- ---- the logical word: decoded by Arm, it is the operation on the low bits of the value
@@ -109,7 +120,7 @@ module _ (k : Lfts 1) (bytes bytes′ : RefT (List ℕ)) (position answer : ℕ)
         word-means operation value width rn rd (wordAt answer position l′) (p .0) (p .1)
         (found-one l position answer l′ said (word-sane operation width value rn rd (p .0) (p .1)) (p .2) (word-alone operation width rn rd (p .0)) z)
 
-    pub logical-word-refusal : refusalIn answer ≤ 10
+    pub logical-word-refusal : refusalIn answer ≤ lastNumber
     logical-word-refusal = refusal l position answer l′ said (word-sane operation width value rn rd (p .0) (p .1)) (p .2)
 
   -- ---- displacements: what was written, the reader reads
@@ -121,7 +132,13 @@ module _ (k : Lfts 1) (bytes bytes′ : RefT (List ℕ)) (position answer : ℕ)
         reads-back (wordAt answer position l′) format base distance
         (found-one l position answer l′ (dispSaid format base distance) (displacement-sane format base distance) p (alone format base distance) z)
 
-    pub displacement-refusal : refusalIn answer ≤ 10
+    -- and the word is an instruction of the format, as its base
+    pub displacement-formed : refusalIn answer ≡ 0 → Instruction (wordAt answer position l′) format
+    displacement-formed z =
+        formed (wordAt answer position l′) format base distance
+        (found-one l position answer l′ (dispSaid format base distance) (displacement-sane format base distance) p (alone format base distance) z)
+
+    pub displacement-refusal : refusalIn answer ≤ lastNumber
     displacement-refusal = refusal l position answer l′ (dispSaid format base distance) (displacement-sane format base distance) p
 
   module _ (format base target address : ℕ)
@@ -135,15 +152,18 @@ module _ (k : Lfts 1) (bytes bytes′ : RefT (List ℕ)) (position answer : ℕ)
     pub displacement-to-read : refusalIn answer ≡ 0 → Read (wordAt answer position l′) format apart
     displacement-to-read z = reads-back (wordAt answer position l′) format base apart (there z)
 
+    pub displacement-to-formed : refusalIn answer ≡ 0 → Instruction (wordAt answer position l′) format
+    displacement-to-formed z = formed (wordAt answer position l′) format base apart (there z)
+
     -- and by Arm's reading the instruction arrives at the target
     pub displacement-to-arrives : refusalIn answer ≡ 0 → target < 2 ^ 64 → address < 2 ^ 64
         → (originOf format address + offset format (wordAt answer position l′)) % 2 ^ 64 ≡ target
     displacement-to-arrives z ht ha = arrives format base target address (wordAt answer position l′) ht ha (there z)
 
-    pub displacement-to-refusal : refusalIn answer ≤ 10
+    pub displacement-to-refusal : refusalIn answer ≤ lastNumber
     displacement-to-refusal = refusal l position answer l′ (dispSaid format base apart) (displacement-sane format base apart) p
 
--- ---- the two that write nothing
+-- ---- those that write nothing
 
 module _ (k : Lfts 0) (answer : ℕ) where
   -- the fields in the answer decode to the low bits of the value
@@ -154,10 +174,13 @@ module _ (k : Lfts 0) (answer : ℕ) where
       go : (a : Said LogicalImm) → Encoded width value a → Reads answer (spelled a)
           → (f : LogicalImm) × (valueIn answer ≡ pos (f .n * 2 ^ 16 + f .s * 2 ^ 8 + f .r)) × Decodes width (f .n) (f .s) (f .r) (value % 2 ^ width)
       go (ok f) e r = (f, r .1, e .1)
-      go (no n) e r = absurd (omega (arith, z, r .0, r .2))
+      go (no n) e r = absurd (omega (arith, z, r .0 .0, r .1))
 
-  pub logical-fields-refusal : (value width : ℕ) → logical-fields.Post k (value, (width, tt)) answer (value, (width, tt)) → refusalIn answer ≤ 10
+  pub logical-fields-refusal : (value width : ℕ) → logical-fields.Post k (value, (width, tt)) answer (value, (width, tt)) → refusalIn answer ≤ lastNumber
   logical-fields-refusal value width p = in-range answer (spelled (p .0)) (fields-read width value answer (p .0) (p .1) (p .2))
 
-  pub read-displacement-refusal : (word format : ℕ) → read-displacement.Post k (word, (format, tt)) answer (word, (format, tt)) → refusalIn answer ≤ 10
+  pub has-form-refusal : (format word : ℕ) → has-form.Post k (format, (word, tt)) answer (format, (word, tt)) → refusalIn answer ≤ lastNumber
+  has-form-refusal format word p = in-range answer (yesNo (formSaid format word)) (form-read format word answer p)
+
+  pub read-displacement-refusal : (word format : ℕ) → read-displacement.Post k (word, (format, tt)) answer (word, (format, tt)) → refusalIn answer ≤ lastNumber
   read-displacement-refusal word format p = in-range answer (readSaid word format) (distance-read word format answer p)

@@ -16,8 +16,9 @@ use lib.Signed.{mag}
 use mir.Syntax.{w64}
 use mir.Val.{toZ}
 use Rattle.words.specs.Said.{Said, ok, no}
+use Rattle.words.specs.Answer.{IsNumber}
 use Rattle.writers.specs.Put.{allBytes, putBytesOf}
-use Rattle.words.proofs.Answers.{not-both}
+use Rattle.words.proofs.Answers.{Alone, Numbered, not-both}
 use Rattle.writers.proofs.Writes.{bytes-refused, bytes-written, bytes-others, bytes-done}
 use Rattle.moves.specs.Moves.{movSaid}
 use Rattle.moves.proofs.Lengths.{mov-by, mov-some}
@@ -26,12 +27,11 @@ use Rattle.patchable_moves.proofs.Lengths.{patch-by, patch64-length, patch32-le
 use Rattle.logical.specs.Answer.{Encoded}
 use Rattle.logical.specs.declared.LogicalImm.{LogicalImm}
 use Rattle.logical_words.specs.Word.{baseOf, filled, wordOf}
-use Rattle.displacements.specs.Answer.{dispSaid, readSaid, offset}
+use Rattle.displacements.specs.Answer.{dispSaid, hasForm, formSaid, readSaid, offset}
 use Rattle.displacements.specs.Forms.{formOf, fieldIn, step}
-use Rattle.displacements.specs.Says.{Says, unknown, taken, off, far, word}
-use Rattle.displacements.proofs.Answers.{says}
+use Rattle.displacements.proofs.Answers.{alone, numbered}
 use Rattle.displacements.proofs.Laws.{each, sound, arm-reads, offset-lt}
-use Rattle.host.specs.Number.{told, refusalIn, valueIn, Reads, counted, hostOf, spelled}
+use Rattle.host.specs.Number.{told, refusalIn, valueIn, Reads, counted, hostOf, spelled, yesNo}
 use Rattle.host.proofs.Reading.{Small, told-reads, extended-mag}
 
 -- ---- all that write
@@ -39,7 +39,7 @@ use Rattle.host.proofs.Reading.{Small, told-reads, extended-mag}
 -- four words at most, or the number of a refusal
 abbrev pub Sane : Said (List ℕ) → Type 0
 Sane (ok ws) = length ws ≤ 4
-Sane (no n) = (1 ≤ n) × (n ≤ 10)
+Sane (no n) = IsNumber n
 
 put-small : (l : List ℕ) (at : ℕ) (x : Said (List ℕ)) → Sane x → Small (counted at (putBytesOf l at x .0))
 unfolding putBytesOf
@@ -87,7 +87,7 @@ module _ (l : List ℕ) (at n : ℕ) (l′ : List ℕ) where
   stands x h e z = go x h (putBytesOf l at x) refl (reads x h e) (left x e)
     where
       go : (x : Said (List ℕ)) → Sane x → (y : Said ℕ × List ℕ) → putBytesOf l at x ≡ y → Reads n (counted at (y .0)) → l′ ≡ y .1 → (vs : List ℕ) × (x ≡ ok vs) × Stands vs
-      go x h (no m, k) q r s = absurd (omega (arith, r .0, r .2))
+      go x h (no m, k) q r s = absurd (omega (arith, r .0 .0, r .1))
       go (no m) h (ok p, k) q r s = absurd (not-done l at m p q)
       go (ok vs) h (ok p, k) q r s =
           let d = bytes-done l at k vs p (sym q) in
@@ -101,7 +101,7 @@ module _ (l : List ℕ) (at n : ℕ) (l′ : List ℕ) where
             },
           )
 
--- ---- each entry's words are four at most, and its refusals are document 01's
+-- ---- each entry's words are four at most, and its refusals have numbers
 
 pub move-sane : (v rd : ℕ) → Sane (movSaid v rd)
 move-sane v rd = mov-by v rd Sane (λ h. omega arith) (λ l. mov-some v rd .most)
@@ -109,18 +109,16 @@ move-sane v rd = mov-by v rd Sane (λ h. omega arith) (λ l. mov-some v rd .most
 pub patchable-sane : (v size rd : ℕ) → Sane (patchSaid v size rd)
 patchable-sane v size rd = patch-by v size rd Sane (omega arith) (omega arith) (λ e l. omega (arith, patch64-length v rd)) (λ e l. omega (arith, patch32-length v rd))
 
+-- one word, or a refusal's number
+one-sane : (x : Said (List ℕ)) → Alone x → Numbered x → Sane x
+one-sane (ok ws) a n = omega arith
+one-sane (no k) a n = n
+
 pub displacement-sane : (n b : ℕ) (d : ℤ) → Sane (dispSaid n b d)
-displacement-sane n b d = go (says n b d)
-  where
-    go : {a : Said (List ℕ)} → Says n b d a → Sane a
-    go (unknown h) = omega arith
-    go (taken h t) = omega arith
-    go (off h free o) = omega arith
-    go (far h free on r) = omega arith
-    go (word h free on r) = omega arith
+displacement-sane n b d = one-sane (dispSaid n b d) (alone n b d) (numbered n b d)
 
 -- the encoder's numbers are 1 and 3
-number-sane : (w v k : ℕ) → Encoded w v (no k) → (1 ≤ k) × (k ≤ 10)
+number-sane : (w v k : ℕ) → Encoded w v (no k) → IsNumber k
 number-sane w v k h = ⊎-elim (λ a. omega (arith, a .0)) (λ b. omega (arith, b .0)) h
 
 pub word-sane : (operation w v rn rd : ℕ) (a : Said LogicalImm) → Encoded w v a → Sane (wordOf operation w rn rd a)
@@ -134,7 +132,7 @@ word-sane operation w v rn rd a = go (ltb 3 operation) (not (eqb w 32 || eqb w 6
     go false false false (ok f) h = omega arith
     go false false false (no k) h = number-sane w v k h
 
--- ---- the two that write nothing
+-- ---- those that write nothing
 
 pub fields-read : (w v n : ℕ) (a : Said LogicalImm) → Encoded w v a → n ≡ told (spelled a) → Reads n (spelled a)
 fields-read w v n a h e = subst⁻¹ (λ (k : ℕ). Reads k (spelled a)) e (told-reads (spelled a) (small a h))
@@ -142,6 +140,14 @@ fields-read w v n a h e = subst⁻¹ (λ (k : ℕ). Reads k (spelled a)) e (told
     small : (a : Said LogicalImm) → Encoded w v a → Small (spelled a)
     small (ok f) h = omega (arith, h .1 .legal .n-bits, h .1 .legal .s-bits, h .1 .legal .r-bits)
     small (no k) h = number-sane w v k h
+
+pub form-read : (n w r : ℕ) → r ≡ told (yesNo (formSaid n w)) → Reads r (yesNo (formSaid n w))
+form-read n w r e = subst⁻¹ (λ (k : ℕ). Reads k (yesNo (formSaid n w))) e (told-reads (yesNo (formSaid n w)) (go (ltb 5 n) (hasForm n w)))
+  where
+    go : (b v : Bool) → Small (yesNo (cond b (no 7) (ok v)))
+    go true v = omega arith
+    go false true = omega arith
+    go false false = omega arith
 
 pub distance-read : (w n r : ℕ) → r ≡ told (readSaid w n) → Reads r (readSaid w n)
 distance-read w n r e = subst⁻¹ (λ (k : ℕ). Reads k (readSaid w n)) e (told-reads (readSaid w n) (go (ltb 5 n) refl))

@@ -9,6 +9,7 @@ use Rattle.host.proofs.vaimalofo_logical_fields.Reads as logical-fields
 use Rattle.host.proofs.vaimalofo_logical_word.Reads as logical-word
 use Rattle.host.proofs.vaimalofo_displacement.Reads as displacement
 use Rattle.host.proofs.vaimalofo_displacement_to.Reads as displacement-to
+use Rattle.host.proofs.vaimalofo_has_form.Reads as has-form
 use Rattle.host.proofs.vaimalofo_read_displacement.Reads as read-displacement
 
 pub move-determined : OneWrite move.Post (λ k x. now (x .0))
@@ -28,6 +29,9 @@ displacement-determined k a r s x y p q = one-pair p q
 
 pub displacement-to-determined : OneWrite displacement-to.Post (λ k x. now (x .0))
 displacement-to-determined k a r s x y p q = one-pair p q
+
+pub has-form-determined : OneAnswer has-form.Post
+has-form-determined k a r s x y p q = one-answer p q
 
 pub read-displacement-determined : OneAnswer read-displacement.Post
 read-displacement-determined k a r s x y p q = one-answer p q

@@ -14,19 +14,20 @@ use mir.Val.{toZ, ofZ}
 use Rattle.arm.specs.Bits.{SignExtend}
 use Rattle.arm.proofs.SignExtends.{double, extend}
 use Rattle.words.specs.Said.{Said, ok, no}
+use Rattle.words.specs.Answer.{IsNumber}
 use Rattle.host.specs.Number.{told, Reads}
 
 abbrev pub Small : Said ℤ → Type 0
 Small (ok v) = mag v < 2 ^ 55
-Small (no n) = (1 ≤ n) × (n ≤ 10)
+Small (no n) = IsNumber n
 
 pub told-reads : (a : Said ℤ) → Small a → Reads (told a) a
 told-reads (ok v) h =
     let up : ofZ w64 v * 2 ^ 8 % 2 ^ 64 / 2 ^ 8 ≡ ofZ w64 v % 2 ^ 56 = omega arith in
     (omega arith, ap (λ (x : ℕ). toZ w64 (SignExtend 56 x)) up ∙ ap (toZ w64) (extend 56 (omega arith) (omega arith) v h) ∙ toZ-ofZ {w = w64} (record { sfits = omega arith }))
 told-reads (no n) h =
-    let none : n / 2 ^ 8 ≡ 0 = omega arith in
-    (h .0, h .1, omega arith, ap (λ (x : ℕ). toZ w64 (SignExtend 56 x)) none)
+    let none : n / 2 ^ 8 ≡ 0 = omega (arith, h .1) in
+    (h, omega (arith, h .1), ap (λ (x : ℕ). toZ w64 (SignExtend 56 x)) none)
 
 -- a number of t bits, sign-extended, is read as one from - 2 ^ (t - 1) up to below 2 ^ (t - 1)
 pub extended-mag : (t v : ℕ) → 1 ≤ t → t ≤ 64 → v < 2 ^ t → mag (toZ w64 (SignExtend t v)) < 2 ^ (t - 1)

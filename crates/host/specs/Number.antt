@@ -1,7 +1,8 @@
 -- The one number that every entry of the host answers, and how it is read. Assumes nothing.
 use mathlib.Core.Path.{_≡_}
+use mathlib.Core.Bool.{Bool, cond}
 use mathlib.Core.List.{List}
-use Prim.Native.Nat.{ℕ, _+_, _-_, _*_, _/_, _%_, _^_, _≤_}
+use Prim.Native.Nat.{ℕ, _+_, _-_, _*_, _/_, _%_, _^_}
 use lib.IntN.{ℤ, pos, natAbs}
 use lib.ListN.{getD}
 use lib.Seq.{slice}
@@ -9,6 +10,7 @@ use mir.Syntax.{w64}
 use mir.Val.{toZ, ofZ}
 use Rattle.arm.specs.Bits.{SignExtend}
 use Rattle.words.specs.Said.{Said, ok, no}
+use Rattle.words.specs.Answer.{IsNumber}
 use Rattle.writers.specs.Put.{wordsIn}
 use Rattle.logical.specs.Answer.{Encoded}
 use Rattle.logical.specs.declared.LogicalImm.{LogicalImm}
@@ -25,10 +27,10 @@ refusalIn x = x % 2 ^ 8
 abbrev pub valueIn : ℕ → ℤ
 valueIn x = toZ w64 (SignExtend 56 (x / 2 ^ 8))
 
--- a host reads from x what was said: a value, and no refusal; or a refusal, 1 to 10, and the value 0
+-- a host reads from x what was said: a value, and no refusal; or a refusal's number, and the value 0
 abbrev pub Reads : ℕ → Said ℤ → Type 0
 Reads x (ok v) = (refusalIn x ≡ 0) × (valueIn x ≡ v)
-Reads x (no n) = (1 ≤ n) × (n ≤ 10) × (refusalIn x ≡ n) × (valueIn x ≡ pos 0)
+Reads x (no n) = IsNumber n × (refusalIn x ≡ n) × (valueIn x ≡ pos 0)
 
 -- ---- the values
 
@@ -57,3 +59,8 @@ spelled (no n) = no n
 -- P of what the encoder says of the low w bits of v (its promise allows one answer)
 abbrev pub ForFields : (w v : ℕ) → (Said LogicalImm → Type 0) → Type 0
 ForFields w v P = (a : Said LogicalImm) × Encoded w v a × P a
+
+-- of a test: 1 for yes, 0 for no
+abbrev pub yesNo : Said Bool → Said ℤ
+yesNo (ok b) = ok (cond b (pos 1) (pos 0))
+yesNo (no n) = no n

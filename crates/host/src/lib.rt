@@ -2,6 +2,7 @@
 // refused), and in the bits above it, read as signed, the value (0 with a refusal). A position counts words; a word is four bytes, low byte
 // first; a tail under four bytes is no room.
 use displacements::DistanceAnswer;
+use displacements::FormAnswer;
 use logical::LogicalAnswer;
 use logical::LogicalImm;
 use words::ByteDistance;
@@ -19,8 +20,8 @@ ghost use Rattle.writers.specs.Put.{putBytesOf};
 ghost use Rattle.logical_words.specs.Word.{ForWord};
 ghost use Rattle.moves.specs.Moves.{movSaid};
 ghost use Rattle.patchable_moves.specs.Patchable.{patchSaid};
-ghost use Rattle.displacements.specs.Answer.{dispSaid, targetSaid, readSaid};
-ghost use Rattle.host.specs.Number.{told, counted, hostOf, spelled, ForFields};
+ghost use Rattle.displacements.specs.Answer.{dispSaid, targetSaid, formSaid, readSaid};
+ghost use Rattle.host.specs.Number.{told, counted, hostOf, spelled, ForFields, yesNo};
 ghost use Rattle.host.specs.Private.{Near};
 
 // A refusal has no value.
@@ -118,7 +119,7 @@ pub extern "C" fn vaimalofo_logical_word(
     )
 }
 
-// A distance in bytes into a base word at a format: 7, 6, 4, 5, 8.
+// A distance in bytes into a base word at a format: 7, 11, 6, 4, 5, 8.
 #[no_mangle]
 pub extern "C" fn vaimalofo_displacement(
     bytes: &mut [u8],
@@ -136,7 +137,7 @@ pub extern "C" fn vaimalofo_displacement(
     )
 }
 
-// The same from a target and the address of the instruction: 7, 6, 4, 5, 8.
+// The same from a target and the address of the instruction: 7, 11, 6, 4, 5, 8.
 #[no_mangle]
 pub extern "C" fn vaimalofo_displacement_to(
     bytes: &mut [u8],
@@ -153,6 +154,24 @@ pub extern "C" fn vaimalofo_displacement_to(
         position,
         displacements::disp_target_word(format, Opc(base), target, address),
     )
+}
+
+// 1 above the low byte, or 0.
+fn yes(b: bool) -> u64
+    ensures { λ n. ⌜ n ≡ told (yesNo (Said.ok b)) ⌝ }
+{
+    if b { 256 } else { 0 }
+}
+
+// Whether a word is an instruction of a format, 1 or 0: 7.
+#[no_mangle]
+pub extern "C" fn vaimalofo_has_form(format: u32, word: u32) -> u64
+    ensures { λ r. ⌜ r ≡ told (yesNo (formSaid format word)) ⌝ }
+{
+    match displacements::has_form(format, Opc(word)) {
+        FormAnswer::OfForm(b) => yes(b),
+        FormAnswer::NoForm(r) => refused(r),
+    }
 }
 
 // The distance in bytes that a word spells at a format: 7.

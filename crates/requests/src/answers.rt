@@ -3,6 +3,7 @@ use crate::Request;
 use crate::low;
 use crate::wide;
 use displacements::DistanceAnswer;
+use displacements::FormAnswer;
 use fp_picks::PickAnswer;
 use immediates::Imm8Answer;
 use lines::Answer;
@@ -94,12 +95,21 @@ fn distance(a: DistanceAnswer) -> Answer {
     }
 }
 
-// Module 7.
-fn reader(r: Request) -> Answer {
-    if r.entry == 114 {
-        return distance(displacements::read_disp(Opc(low(r.a)), low(r.b)));
+fn form(a: FormAnswer) -> Answer {
+    match a {
+        FormAnswer::OfForm(b) => yes(b),
+        FormAnswer::NoForm(r) => Answer::No(r),
     }
-    Answer::No(Refusal::Unknown)
+}
+
+// Module 7.
+fn reads(r: Request) -> Answer {
+    let k = r.entry;
+    match k {
+        114 => distance(displacements::read_disp(Opc(low(r.a)), low(r.b))),
+        115 => form(displacements::has_form(low(r.a), Opc(low(r.b)))),
+        _ => Answer::No(Refusal::Unknown),
+    }
 }
 
 fn imm8(a: Imm8Answer) -> Answer {
@@ -174,7 +184,7 @@ pub(crate) fn answer(r: Request) -> Answer {
         1 => ground(r),
         2 => checks(r),
         3 | 4 | 5 => values(r),
-        7 => reader(r),
+        7 => reads(r),
         8 => small(r),
         9 => sizes(r),
         _ => Answer::No(Refusal::Unknown),

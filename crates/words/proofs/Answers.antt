@@ -6,10 +6,10 @@ use native.Mathlib.Omega.{arith}
 use lib.Dec.{lit≤}
 use lib.ListN.{length, getD}
 use Rattle.words.specs.Said.{Said, ok, no}
-use Rattle.words.specs.Answer.{numberOf, said, made}
+use Rattle.words.specs.Answer.{numberOf, IsNumber, said, made}
 use Rattle.words.specs.Listed.{listOf, wordsOf, listed, packed}
 use Rattle.words.specs.declared.Refusal.{Refusal}
-use Rattle.words.specs.declared.Refusal.the-variants.{Width, Register, NoField, Step, Range, Taken, Unknown, NoRoom, Index, ZeroBase}
+use Rattle.words.specs.declared.Refusal.the-variants.{Width, Register, NoField, Step, Range, Taken, Unknown, NoRoom, Index, ZeroBase, WrongForm}
 use Rattle.words.specs.declared.Worded.{Worded}
 use Rattle.words.specs.declared.Worded.the-variants.{Made, Not}
 use Rattle.words.specs.declared.Written.{Written}
@@ -22,7 +22,7 @@ pub all-said : {X Y : Type 0} (say : X → Y) (unsay : Y → X) → ((x : X) →
 all-said say unsay back r s e = sym (back r) ∙ ap unsay e ∙ back s
 
 abbrev refusals : List Refusal
-refusals = Width ∷ Width ∷ Register ∷ NoField ∷ Step ∷ Range ∷ Taken ∷ Unknown ∷ NoRoom ∷ Index ∷ ZeroBase ∷ []
+refusals = Width ∷ Width ∷ Register ∷ NoField ∷ Step ∷ Range ∷ Taken ∷ Unknown ∷ NoRoom ∷ Index ∷ ZeroBase ∷ WrongForm ∷ []
 
 -- the refusal of a number
 abbrev pub refusalOf : ℕ → Refusal
@@ -39,12 +39,14 @@ refusal-back Unknown = refl
 refusal-back NoRoom = refl
 refusal-back Index = refl
 refusal-back ZeroBase = refl
+refusal-back WrongForm = refl
 
--- a number is one refusal's, and is 1 to 10
+-- a number is one refusal's
 pub number-all : (r s : Refusal) → numberOf r ≡ numberOf s → r ≡ s
 number-all = all-said numberOf refusalOf refusal-back
 
-pub number-range : (r : Refusal) → (1 ≤ numberOf r) × (numberOf r ≤ 10)
+-- and is 1 to the last
+pub number-range : (r : Refusal) → IsNumber (numberOf r)
 number-range Width = (lit≤ tt, lit≤ tt)
 number-range Register = (lit≤ tt, lit≤ tt)
 number-range NoField = (lit≤ tt, lit≤ tt)
@@ -55,6 +57,7 @@ number-range Unknown = (lit≤ tt, lit≤ tt)
 number-range NoRoom = (lit≤ tt, lit≤ tt)
 number-range Index = (lit≤ tt, lit≤ tt)
 number-range ZeroBase = (lit≤ tt, lit≤ tt)
+number-range WrongForm = (lit≤ tt, lit≤ tt)
 
 -- an answer of two cases: a value, and a refusal
 module _ {A X : Type 0} (value : A → X) (refusal : Refusal → X) where
@@ -100,6 +103,11 @@ Short (no n) = Unit
 abbrev pub Alone : Said (List ℕ) → Type 0
 Alone (ok ws) = length ws ≡ 1
 Alone (no n) = Unit
+
+-- what is refused has a refusal's number
+abbrev pub Numbered : {A : Type 0} → Said A → Type 0
+Numbered (ok a) = Unit
+Numbered (no n) = IsNumber n
 
 pub alone-short : (x : Said (List ℕ)) → Alone x → Short x
 alone-short (ok ws) h = omega arith

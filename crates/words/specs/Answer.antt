@@ -1,15 +1,15 @@
--- Document 01's number of each refusal, and its numbers and values for each answer. Assumes nothing.
-use Prim.Native.Nat.{ℕ}
+-- The number of each refusal, and the numbers and values of each answer. Assumes nothing.
+use Prim.Native.Nat.{ℕ, _≤_}
 use Rattle.words.specs.Said.{Said, ok, no}
 use Rattle.words.specs.declared.Refusal.{Refusal}
-use Rattle.words.specs.declared.Refusal.the-variants.{Width, Register, NoField, Step, Range, Taken, Unknown, NoRoom, Index, ZeroBase}
+use Rattle.words.specs.declared.Refusal.the-variants.{Width, Register, NoField, Step, Range, Taken, Unknown, NoRoom, Index, ZeroBase, WrongForm}
 use Rattle.words.specs.declared.Words.{Words}
 use Rattle.words.specs.declared.Worded.{Worded}
 use Rattle.words.specs.declared.Worded.the-variants.{Made, Not}
 use Rattle.words.specs.declared.Written.{Written}
 use Rattle.words.specs.declared.Written.the-variants.{Done, No}
 
--- "Numbers given when a request is turned down"
+-- "Numbers given when a request is turned down", and from 11 on those of document 02
 abbrev pub numberOf : Refusal → ℕ
 numberOf Width = 1
 numberOf Register = 2
@@ -21,6 +21,15 @@ numberOf Unknown = 7
 numberOf NoRoom = 8
 numberOf Index = 9
 numberOf ZeroBase = 10
+numberOf WrongForm = 11
+
+-- the last of them
+abbrev pub lastNumber : ℕ
+lastNumber = 11
+
+-- a refusal's number
+abbrev pub IsNumber : ℕ → Type 0
+IsNumber n = (1 ≤ n) × (n ≤ lastNumber)
 
 -- a writer says the position after the last word
 abbrev pub said : Written → Said ℕ

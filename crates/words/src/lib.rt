@@ -19,7 +19,7 @@ pub struct ByteDistance(pub i64);
 // An opcode word.
 pub struct Opc(pub u32);
 
-// Why a request was turned down; `number` gives document 01's number.
+// Why a request was turned down; `number` gives the number of document 01 or 02.
 pub enum Refusal {
     Width,
     Register,
@@ -31,6 +31,7 @@ pub enum Refusal {
     NoRoom,
     Index,
     ZeroBase,
+    WrongForm,
 }
 
 // Up to four words: a, b, c, d, as many as the count says.
@@ -68,6 +69,7 @@ pub fn number(r: Refusal) -> u32
         Refusal::NoRoom => 8,
         Refusal::Index => 9,
         Refusal::ZeroBase => 10,
+        Refusal::WrongForm => 11,
     }
 }
 

@@ -1,0 +1,165 @@
+-- The fixed bits of a format's instructions: outside its field, told by the top byte and bit 4 of a word, as the code's masks test them, and those of
+-- one format only. Assumes nothing.
+use mathlib.Core.Path.{_≡_, refl, sym, ap, _∙_}
+use mathlib.Core.Logic.{inl, inr}
+use mathlib.Core.Bool.{Bool, true, false, cond, not, _&&_, _||_}
+use mathlib.Core.List.{List, [], _∷_}
+use Prim.Native.Nat.{ℕ, _+_, _*_, _/_, _%_, _^_, _<_}
+use native.Mathlib.Nat.{mod-lt}
+use native.Mathlib.Omega.{arith}
+use borrow.Author.Tests.{eqb-true}
+use lib.Bits.{bitAnd, and-mask, and-high, and-block, and-zero-r}
+use lib.Dec.{T, eqb}
+use lib.ListN.{getD}
+use lib.Pow.{pow-pos, split}
+use Rattle.arm.specs.Bits.{bits}
+use Rattle.arm.specs.FixedBits.{isBcond, isCBZ}
+use Rattle.words.proofs.Fields.{part}
+use Rattle.words.proofs.Table.{below, below-at}
+use Rattle.displacements.specs.Forms.{formOf}
+use Rattle.displacements.specs.Answer.{hasForm}
+use Rattle.displacements.specs.Says.{Formed}
+use Rattle.displacements.proofs.Laws.{each, Outside}
+
+-- ---- outside the field
+
+module _ (w b : ℕ) where
+  -- two words that are alike outside the field of format n
+  abbrev Alike : ℕ → Type 0
+  Alike n = (q l : ℕ) → Outside (formOf n) q l → part q l w ≡ part q l b
+
+  pub conds-kept : Alike 1 → (isBcond w ≡ isBcond b) × (isCBZ w ≡ isCBZ b)
+  conds-kept k =
+      let top : part 25 7 w ≡ part 25 7 b = k 25 7 (record { rest = inr (omega arith); lows = inl refl }) in
+      let op : part 24 1 w ≡ part 24 1 b = k 24 1 (record { rest = inr (omega arith); lows = inl refl }) in
+      let low : part 4 1 w ≡ part 4 1 b = k 4 1 (record { rest = inl (omega arith); lows = inl refl }) in
+      let six : part 25 6 w ≡ part 25 6 b = k 25 6 (record { rest = inr (omega arith); lows = inl refl }) in
+      (rw (top, op, low), rw six)
+
+  pub forms-kept : (n : ℕ) → n < 6 → Alike n → hasForm n w ≡ hasForm n b
+  unfolding hasForm
+  forms-kept =
+      each (λ n. Alike n → hasForm n w ≡ hasForm n b)
+      (λ k. rw (k 26 5 (record { rest = inr (omega arith); lows = inl refl })))
+      (λ k. rw (conds-kept k .0, conds-kept k .1))
+      (λ k. rw (k 25 6 (record { rest = inr (omega arith); lows = inl refl })))
+      (λ k. rw (k 31 1 (record { rest = inr (omega arith); lows = inr (inr (omega arith)) }), k 24 5 (record { rest = inr (omega arith); lows = inr (inl (omega arith)) })))
+      (λ k. rw (k 31 1 (record { rest = inr (omega arith); lows = inr (inr (omega arith)) }), k 24 5 (record { rest = inr (omega arith); lows = inr (inl (omega arith)) })))
+      (λ k. rw (
+        k 27 3 (record { rest = inr (omega arith); lows = inl refl }),
+        k 24 2 (record { rest = inr (omega arith); lows = inl refl }),
+        k 30 2 (record { rest = inr (omega arith); lows = inl refl }),
+        k 26 1 (record { rest = inr (omega arith); lows = inl refl }),
+      ))
+
+-- ---- told by the top byte and bit 4
+
+-- those of a word, the rest of it clear
+abbrev pub key : ℕ → ℕ
+key w = bits 31 24 w * 2 ^ 24 + bits 4 4 w * 2 ^ 4
+
+module _ (w : ℕ) where
+  pub key-form : (n : ℕ) → n < 6 → hasForm n w ≡ hasForm n (key w)
+  unfolding hasForm
+  key-form =
+      let a : part 26 5 (key w) ≡ part 26 5 w = omega arith in
+      let b : part 25 7 (key w) ≡ part 25 7 w = omega arith in
+      let c : part 24 1 (key w) ≡ part 24 1 w = omega arith in
+      let d : part 4 1 (key w) ≡ part 4 1 w = omega arith in
+      let e : part 25 6 (key w) ≡ part 25 6 w = omega arith in
+      let f : part 31 1 (key w) ≡ part 31 1 w = omega arith in
+      let g : part 24 5 (key w) ≡ part 24 5 w = omega arith in
+      let h : part 27 3 (key w) ≡ part 27 3 w = omega arith in
+      let i : part 24 2 (key w) ≡ part 24 2 w = omega arith in
+      let j : part 30 2 (key w) ≡ part 30 2 w = omega arith in
+      let k : part 26 1 (key w) ≡ part 26 1 w = omega arith in
+      each (λ n. hasForm n w ≡ hasForm n (key w)) (rw a) (rw (b, c, d, e)) (rw e) (rw (f, g)) (rw (f, g)) (rw (h, i, j, k))
+
+  top-byte : (h m : ℕ) → m < 2 ^ 24 → bitAnd w (h * 2 ^ 24 + m) ≡ bitAnd (w / 2 ^ 24) h * 2 ^ 24 + bitAnd (w % 2 ^ 24) m
+  top-byte h m l = ap (λ (k : ℕ). bitAnd k (h * 2 ^ 24 + m)) (sym (split w 24)) ∙ and-block 24 (w / 2 ^ 24) h (w % 2 ^ 24) m (mod-lt w (pow-pos 24)) l
+
+  -- a mask of both
+  both-and : bitAnd w 0xFF000010 ≡ key w
+  both-and =
+      let low : bits 4 4 (w % 2 ^ 24) ≡ bits 4 4 w = omega arith in
+      top-byte 0xFF 0x10 (omega arith) ∙ rw (and-mask (w / 2 ^ 24) 8, and-high (w % 2 ^ 24) 1 4, low)
+
+-- a mask of the top byte
+key-and : (w h : ℕ) → w < 2 ^ 32 → bitAnd w (h * 2 ^ 24 + 0) ≡ bitAnd (key w) (h * 2 ^ 24 + 0)
+key-and w h l =
+    let top : key w / 2 ^ 24 ≡ w / 2 ^ 24 = omega arith in
+    top-byte w h 0 (omega arith) ∙ sym (top-byte (key w) h 0 (omega arith) ∙ rw (top, and-zero-r (w % 2 ^ 24), and-zero-r (key w % 2 ^ 24)))
+
+-- ---- the masks
+
+-- the code's tests
+abbrev pub masked : ℕ → ℕ → Bool
+masked n w =
+    getD
+    (eqb (bitAnd w 0x7C000000) 0x14000000
+    ∷ (eqb (bitAnd w 0xFF000010) 0x54000000 || eqb (bitAnd w 0x7E000000) 0x34000000)
+    ∷ eqb (bitAnd w 0x7E000000) 0x36000000
+    ∷ eqb (bitAnd w 0x9F000000) 0x10000000
+    ∷ eqb (bitAnd w 0x9F000000) 0x90000000
+    ∷ (eqb (bitAnd w 0x3B000000) 0x18000000 && not (eqb (bitAnd w 0xFF000000) 0xDC000000))
+    ∷ [])
+    n false
+
+key-masked : (w : ℕ) → w < 2 ^ 32 → (n : ℕ) → n < 6 → masked n w ≡ masked n (key w)
+key-masked w l =
+    let again : key (key w) ≡ key w = omega arith in
+    let both : bitAnd w 0xFF000010 ≡ bitAnd (key w) 0xFF000010 = both-and w ∙ sym (both-and (key w) ∙ again) in
+    each (λ n. masked n w ≡ masked n (key w))
+    (rw (key-and w 0x7C l))
+    (rw (both, key-and w 0x7E l))
+    (rw (key-and w 0x7E l))
+    (rw (key-and w 0x9F l))
+    (rw (key-and w 0x9F l))
+    (rw (key-and w 0x3B l, key-and w 0xFF l))
+
+-- ---- a rule of all keys, at the six formats: one computed test
+
+abbrev same : Bool → Bool → Bool
+same true b = b
+same false b = not b
+
+same-is : (a b : Bool) → T (same a b) → a ≡ b
+same-is true true t = refl
+same-is true false t = absurd t
+same-is false true t = absurd t
+same-is false false t = refl
+
+-- f and g are the same at each of the six formats and at the key of each top byte t and bit x
+abbrev Agree : (ℕ → ℕ → Bool) → (ℕ → ℕ → Bool) → Type 0
+Agree f g = T (below (λ t. below (λ x. below (λ n. same (f n (t * 2 ^ 24 + x * 2 ^ 4)) (g n (t * 2 ^ 24 + x * 2 ^ 4))) 6) 2) 256)
+
+agree : (f g : ℕ → ℕ → Bool) → Agree f g → (w n : ℕ) → n < 6 → f n (key w) ≡ g n (key w)
+agree f g r w n h =
+    let at = λ (t x n : ℕ). same (f n (t * 2 ^ 24 + x * 2 ^ 4)) (g n (t * 2 ^ 24 + x * 2 ^ 4)) in
+    let t = bits 31 24 w in
+    let x = bits 4 4 w in
+    same-is (f n (key w)) (g n (key w))
+    (below-at (at t x) 6 (below-at (λ x. below (at t x) 6) 2 (below-at (λ t. below (λ x. below (at t x) 6) 2) 256 r t (omega arith)) x (omega arith)) n h)
+
+masks-right : Agree hasForm masked
+unfolding hasForm
+masks-right = tt
+
+-- the masks test the fixed bits
+pub by-masks : (w : ℕ) → w < 2 ^ 32 → (n : ℕ) → n < 6 → masked n w ≡ hasForm n w
+by-masks w l n h = key-masked w l n h ∙ sym (key-form w n h ∙ agree hasForm masked masks-right w n h)
+
+-- the first format whose fixed bits a word has, or 6
+abbrev first : ℕ → ℕ
+first w = cond (hasForm 0 w) 0 (cond (hasForm 1 w) 1 (cond (hasForm 2 w) 2 (cond (hasForm 3 w) 3 (cond (hasForm 4 w) 4 (cond (hasForm 5 w) 5 6)))))
+
+only-first : Agree hasForm (λ n w. eqb (first w) n)
+unfolding hasForm
+only-first = tt
+
+-- a word has the fixed bits of one format at most
+pub one-form : (w m n : ℕ) → m < 6 → n < 6 → Formed m w → Formed n w → m ≡ n
+one-form w m n hm hn a b =
+    let at : (k : ℕ) → k < 6 → Formed k w → first (key w) ≡ k =
+    λ k h f. eqb-true (first (key w)) k (sym (agree hasForm (λ n w. eqb (first w) n) only-first w k h) ∙ sym (key-form w k h) ∙ f) in
+    sym (at m hm a) ∙ at n hn b
