@@ -4,22 +4,27 @@ use mathlib.Core.Path.{_≡_, refl, sym, ap, _∙_}
 use mathlib.Core.Logic.{inl, inr}
 use mathlib.Core.Bool.{Bool, true, false, cond, not, _&&_, _||_}
 use mathlib.Core.List.{List, [], _∷_}
-use Prim.Native.Nat.{ℕ, _+_, _*_, _/_, _%_, _^_, _<_}
+use Prim.Native.Nat.{ℕ, _+_, _-_, _*_, _/_, _%_, _^_, _<_, _≤_}
 use native.Mathlib.Nat.{mod-lt}
 use native.Mathlib.Omega.{arith}
 use borrow.Author.Tests.{eqb-true}
 use lib.Bits.{bitAnd, and-mask, and-high, and-block, and-zero-r}
 use lib.Dec.{T, eqb}
-use lib.ListN.{getD}
-use lib.Pow.{pow-pos, split}
+use lib.ListN.{getD, List·getD-eq-default}
+use lib.Pow.{pow-pos, split, mod-mod-pow}
 use Rattle.arm.specs.Bits.{bits}
-use Rattle.arm.specs.FixedBits.{isBcond, isCBZ}
-use Rattle.words.proofs.Fields.{part}
+use Rattle.arm.specs.FixedBits.{isB, isBcond, isCBZ, isTBZ, isADR, isADRP, isLDR}
+use Rattle.words.proofs.Fields.{part, part-part}
 use Rattle.words.proofs.Table.{below, below-at}
 use Rattle.displacements.specs.Forms.{formOf}
 use Rattle.displacements.specs.Answer.{hasForm}
 use Rattle.displacements.specs.Says.{Formed}
 use Rattle.displacements.proofs.Laws.{each, Outside}
+
+-- from 6 on there is no format
+pub no-format : (w n : ℕ) → 6 ≤ n → hasForm n w ≡ false
+unfolding hasForm
+no-format w n h = List·getD-eq-default (isB w ∷ (isBcond w || isCBZ w) ∷ isTBZ w ∷ isADR w ∷ isADRP w ∷ isLDR w ∷ []) false {n = n} h
 
 -- ---- outside the field
 
@@ -59,21 +64,27 @@ abbrev pub key : ℕ → ℕ
 key w = bits 31 24 w * 2 ^ 24 + bits 4 4 w * 2 ^ 4
 
 module _ (w : ℕ) where
-  pub key-form : (n : ℕ) → n < 6 → hasForm n w ≡ hasForm n (key w)
+  -- a slice of the top byte
+  key-top : (q l : ℕ) → 24 ≤ q → q + l ≤ 32 → part q l (key w) ≡ part q l w
+  key-top q l lo hi =
+      let above : key w / 2 ^ 24 ≡ part 24 8 w = omega arith in
+      let top : part 24 8 (key w) ≡ part 24 8 w = ap (λ (k : ℕ). k % 2 ^ 8) above ∙ mod-mod-pow (w / 2 ^ 24) 0 8 in
+      sym (part-part 24 8 q l (key w) lo (omega arith)) ∙ ap (part (q - 24) l) top ∙ part-part 24 8 q l w lo (omega arith)
+
+  key-low : part 4 1 (key w) ≡ part 4 1 w
+  key-low = omega arith
+
+  -- they tell the form
+  pub key-form : (n : ℕ) → n < 6 → hasForm n (key w) ≡ hasForm n w
   unfolding hasForm
   key-form =
-      let a : part 26 5 (key w) ≡ part 26 5 w = omega arith in
-      let b : part 25 7 (key w) ≡ part 25 7 w = omega arith in
-      let c : part 24 1 (key w) ≡ part 24 1 w = omega arith in
-      let d : part 4 1 (key w) ≡ part 4 1 w = omega arith in
-      let e : part 25 6 (key w) ≡ part 25 6 w = omega arith in
-      let f : part 31 1 (key w) ≡ part 31 1 w = omega arith in
-      let g : part 24 5 (key w) ≡ part 24 5 w = omega arith in
-      let h : part 27 3 (key w) ≡ part 27 3 w = omega arith in
-      let i : part 24 2 (key w) ≡ part 24 2 w = omega arith in
-      let j : part 30 2 (key w) ≡ part 30 2 w = omega arith in
-      let k : part 26 1 (key w) ≡ part 26 1 w = omega arith in
-      each (λ n. hasForm n w ≡ hasForm n (key w)) (rw a) (rw (b, c, d, e)) (rw e) (rw (f, g)) (rw (f, g)) (rw (h, i, j, k))
+      each (λ n. hasForm n (key w) ≡ hasForm n w)
+      (rw (key-top 26 5 (omega arith) (omega arith)))
+      (rw (key-top 25 7 (omega arith) (omega arith), key-top 24 1 (omega arith) (omega arith), key-low, key-top 25 6 (omega arith) (omega arith)))
+      (rw (key-top 25 6 (omega arith) (omega arith)))
+      (rw (key-top 31 1 (omega arith) (omega arith), key-top 24 5 (omega arith) (omega arith)))
+      (rw (key-top 31 1 (omega arith) (omega arith), key-top 24 5 (omega arith) (omega arith)))
+      (rw (key-top 27 3 (omega arith) (omega arith), key-top 24 2 (omega arith) (omega arith), key-top 30 2 (omega arith) (omega arith), key-top 26 1 (omega arith) (omega arith)))
 
   top-byte : (h m : ℕ) → m < 2 ^ 24 → bitAnd w (h * 2 ^ 24 + m) ≡ bitAnd (w / 2 ^ 24) h * 2 ^ 24 + bitAnd (w % 2 ^ 24) m
   top-byte h m l = ap (λ (k : ℕ). bitAnd k (h * 2 ^ 24 + m)) (sym (split w 24)) ∙ and-block 24 (w / 2 ^ 24) h (w % 2 ^ 24) m (mod-lt w (pow-pos 24)) l
@@ -135,7 +146,7 @@ Agree f g = T (below (λ t. below (λ x. below (λ n. same (f n (t * 2 ^ 24 + x 
 
 agree : (f g : ℕ → ℕ → Bool) → Agree f g → (w n : ℕ) → n < 6 → f n (key w) ≡ g n (key w)
 agree f g r w n h =
-    let at = λ (t x n : ℕ). same (f n (t * 2 ^ 24 + x * 2 ^ 4)) (g n (t * 2 ^ 24 + x * 2 ^ 4)) in
+    let at : ℕ → ℕ → ℕ → Bool = λ t x n. same (f n (t * 2 ^ 24 + x * 2 ^ 4)) (g n (t * 2 ^ 24 + x * 2 ^ 4)) in
     let t = bits 31 24 w in
     let x = bits 4 4 w in
     same-is (f n (key w)) (g n (key w))
@@ -147,7 +158,7 @@ masks-right = tt
 
 -- the masks test the fixed bits
 pub by-masks : (w : ℕ) → w < 2 ^ 32 → (n : ℕ) → n < 6 → masked n w ≡ hasForm n w
-by-masks w l n h = key-masked w l n h ∙ sym (key-form w n h ∙ agree hasForm masked masks-right w n h)
+by-masks w l n h = key-masked w l n h ∙ sym (agree hasForm masked masks-right w n h) ∙ key-form w n h
 
 -- the first format whose fixed bits a word has, or 6
 abbrev first : ℕ → ℕ
@@ -161,5 +172,5 @@ only-first = tt
 pub one-form : (w m n : ℕ) → m < 6 → n < 6 → Formed m w → Formed n w → m ≡ n
 one-form w m n hm hn a b =
     let at : (k : ℕ) → k < 6 → Formed k w → first (key w) ≡ k =
-    λ k h f. eqb-true (first (key w)) k (sym (agree hasForm (λ n w. eqb (first w) n) only-first w k h) ∙ sym (key-form w k h) ∙ f) in
+    λ k h f. eqb-true (first (key w)) k (sym (agree hasForm (λ n w. eqb (first w) n) only-first w k h) ∙ key-form w k h ∙ f) in
     sym (at m hm a) ∙ at n hn b

@@ -11,6 +11,19 @@ use lib.Pow.{pow-pos, pow-add, shr-shr, field, mod-mod-pow, mod-pow-add}
 abbrev pub part : ℕ → ℕ → ℕ → ℕ
 part q l w = w / 2 ^ q % 2 ^ l
 
+-- a slice of a slice
+pub part-part : (p n q l w : ℕ) → p ≤ q → q + l ≤ p + n → part (q - p) l (part p n w) ≡ part q l w
+part-part p n q l w lo hi =
+    let a : n ≡ n - (q - p) + (q - p) = omega arith in
+    let b : n - (q - p) ≡ n - (q - p) - l + l = omega arith in
+    let c : p + (q - p) ≡ q = omega arith in
+    let x = w / 2 ^ p in
+    let cut : x % 2 ^ n / 2 ^ (q - p) ≡ x / 2 ^ (q - p) % 2 ^ (n - (q - p)) = ap (λ (k : ℕ). x % 2 ^ k / 2 ^ (q - p)) a ∙ field x (n - (q - p)) (q - p) in
+    ap (λ (v : ℕ). v % 2 ^ l) cut
+    ∙ ap (λ (k : ℕ). x / 2 ^ (q - p) % 2 ^ k % 2 ^ l) b
+    ∙ mod-mod-pow (x / 2 ^ (q - p)) (n - (q - p) - l) l
+    ∙ ap (λ (v : ℕ). v % 2 ^ l) (shr-shr w p (q - p) ∙ ap (λ (k : ℕ). w / 2 ^ k) c)
+
 -- a slice that ends at or below the field
 pub part-below : (p q l w g : ℕ) → q + l ≤ p → part q l (w + g * 2 ^ p) ≡ part q l w
 part-below p q l w g h =
@@ -44,15 +57,7 @@ abbrev pub bit : ℕ → ℕ → ℕ
 bit q w = part q 1 w
 
 pub bit-of-clear : (p n w : ℕ) → part p n w ≡ 0 → (q : ℕ) → p ≤ q → q < p + n → bit q w ≡ 0
-bit-of-clear p n w e q lo hi =
-    let a : n ≡ n - (q - p) + (q - p) = omega arith in
-    let b : n - (q - p) ≡ n - (q - p) - 1 + 1 = omega arith in
-    let c : p + (q - p) ≡ q = omega arith in
-    let x = w / 2 ^ p in
-    let z : x / 2 ^ (q - p) % 2 ^ (n - (q - p)) ≡ 0 =
-    sym (field x (n - (q - p)) (q - p)) ∙ ap (λ (v : ℕ). v / 2 ^ (q - p)) (ap (λ (k : ℕ). x % 2 ^ k) (sym a) ∙ e) ∙ zero-div (2 ^ (q - p)) in
-    let y : w / 2 ^ q % 2 ^ (n - (q - p)) ≡ 0 = ap (λ (k : ℕ). w / 2 ^ k % 2 ^ (n - (q - p))) (sym c) ∙ ap (λ (v : ℕ). v % 2 ^ (n - (q - p))) (sym (shr-shr w p (q - p))) ∙ z in
-    sym (mod-mod-pow (w / 2 ^ q) (n - (q - p) - 1) 1) ∙ ap (λ (v : ℕ). v % 2 ^ 1) (ap (λ (k : ℕ). w / 2 ^ q % 2 ^ k) (sym b) ∙ y)
+bit-of-clear p n w e q lo hi = sym (part-part p n q 1 w lo (omega arith)) ∙ ap (part (q - p) 1) e ∙ ap (λ (v : ℕ). v % 2 ^ 1) (zero-div (2 ^ (q - p)))
 
 pub clear-of-bits : (p n w : ℕ) → ((q : ℕ) → p ≤ q → q < p + n → bit q w ≡ 0) → part p n w ≡ 0
 clear-of-bits p zero w h = mod-one (w / 2 ^ p)
