@@ -1,10 +1,11 @@
-//! Document 01's examples, asked of its model and, where it has no departure, of the Rust.
+//! Document 01's examples, asked of its model and, where it has no departure, of the Rust; and the
+//! forms of document 02's request h.
 
 use std::fs;
 use std::path::Path;
 
 use oracle::document::No;
-use oracle::document::displacements::{disp_word, distance, read_disp};
+use oracle::document::displacements::{FORMATS, FORMS, disp_word, distance, has_form, read_disp};
 use oracle::document::immediates::{encode_byte_mask, encode_float, expand_float};
 use oracle::document::logical::{encode_logical_imm, masks, normalise};
 use oracle::document::moves::{move_words, patchable_words};
@@ -136,15 +137,80 @@ fn as_many_masks_as_arm_has() {
     assert_eq!(masks(64).len(), 5334);
 }
 
+/// Every top byte with several lower bits, none to all of them, and bit 4 clear and set: no form
+/// fixes another bit.
+fn words() -> impl Iterator<Item = u32> {
+    let lower = [0, 1, 0xF, 0x10, 0x1F, 0x20, 1 << 18, 1 << 19, 1 << 23, 0xFF_FFEF, 0xFF_FFFF];
+    (0..256).flat_map(move |top| lower.map(|low| top << 24 | low))
+}
+
 #[test]
 fn a_base_is_taken_exactly_where_the_field_stands() {
-    let fields = [0x03FF_FFFF, 0x00FF_FFE0, 0x0007_FFE0, 0x60FF_FFE0, 0x60FF_FFE0, 0x00FF_FFE0];
-    for (format, field) in (0..).zip(fields) {
+    let formats = [
+        (0x1400_0000, 0x03FF_FFFF),
+        (0x5400_0000, 0x00FF_FFE0),
+        (0x3600_0000, 0x0007_FFE0),
+        (0x1000_0000, 0x60FF_FFE0),
+        (0x9000_0000, 0x60FF_FFE0),
+        (0x5800_0000, 0x00FF_FFE0),
+    ];
+    for (format, (base, field)) in (0..).zip(formats) {
         for bit in (0..32).map(|bit| 1u32 << bit) {
-            let taken = disp_word(format, bit, 0) == Err(No(6));
-            assert_eq!(taken, field & bit != 0);
+            let taken = disp_word(format, base | bit, 0) == Err(No(6));
+            assert_eq!(taken, field & bit != 0, "{format}: {base:08x} with {bit:x}");
         }
     }
+}
+
+/// The diagrams against masks put down beside them.
+#[test]
+fn the_forms_by_masks() {
+    for word in words() {
+        let fixed = |mask: u32, bits: u32| word & mask == bits;
+        let forms = [
+            fixed(0x7C00_0000, 0x1400_0000),
+            fixed(0xFF00_0010, 0x5400_0000) || fixed(0x7E00_0000, 0x3400_0000),
+            fixed(0x7E00_0000, 0x3600_0000),
+            fixed(0x9F00_0000, 0x1000_0000),
+            fixed(0x9F00_0000, 0x9000_0000),
+            fixed(0x3B00_0000, 0x1800_0000) && !fixed(0xFF00_0000, 0xDC00_0000),
+        ];
+        for (format, form) in (0..).zip(forms) {
+            assert_eq!(has_form(format, word), Ok(form), "{format}: {word:08x}");
+            let refused = disp_word(format, word, 0) == Err(No(11));
+            assert_eq!(refused, !form, "{format}: {word:08x}");
+        }
+        assert!(forms.iter().filter(|form| **form).count() < 2, "{word:08x} has two forms");
+    }
+}
+
+/// The displacement's letters stand where the table of formats has its field.
+#[test]
+fn the_diagrams_have_the_field() {
+    for (format, forms) in FORMATS.iter().zip(FORMS) {
+        for form in forms {
+            let letters = form.diagram.chars().map(|letter| u32::from(letter == 'i'));
+            let field = letters.fold(0, |word, bit| word << 1 | bit);
+            let bits: u32 = format.field.iter().map(|(bits, _)| bits).sum();
+            assert_eq!((format.read(field), field.count_ones()), ((1 << bits) - 1, bits));
+        }
+    }
+}
+
+#[test]
+fn the_wrong_form_is_told_after_the_format_and_before_the_rest() {
+    // An ADR word, its field taken, for a branch; off the step and out of range.
+    assert_eq!(disp_word(0, 0x1000_0020, 2), Err(No(11)));
+    assert_eq!(disp_word(0, 0x1000_0000, 134217730), Err(No(11)));
+    assert_eq!(disp_word(6, 0x1000_0020, 2), Err(No(7)));
+    assert_eq!(has_form(6, 0x1400_0000), Err(No(7)));
+    assert_eq!(disp_word(0, 0x1400_0001, 134217730), Err(No(6)));
+    // BC.cond, and an unallocated literal.
+    assert_eq!(disp_word(1, 0x5400_0010, 4), Err(No(11)));
+    assert_eq!(disp_word(5, 0xDC00_0000, 4), Err(No(11)));
+    // The Rust looks at no base, and the reader at no form.
+    assert_eq!(rust::emit_disp_imm(0, 0x1000_0000, 4), Some(Some(0x1000_0001)));
+    assert_eq!(read_disp(0x1000_0001, 0), Ok(4));
 }
 
 #[test]

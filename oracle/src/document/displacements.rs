@@ -1,4 +1,4 @@
-//! Module 7: displacements.
+//! Module 7: displacements; and document 02's request h, by which a base must have its format's form.
 
 use super::{No, words};
 
@@ -54,9 +54,80 @@ pub const FORMATS: [Format; 6] = [
     BRANCH_19,
 ];
 
-/// Order 7, 6, 4, 5.
+/// An instruction's encoding diagram: its 32 bits from the high one on, `0` and `1` where they are
+/// fixed, a letter where a field stands, which is `i` for the displacement's.
+pub struct Form {
+    pub diagram: &'static str,
+    /// Ones where a bit is fixed.
+    mask: u32,
+    /// The fixed bits.
+    bits: u32,
+}
+
+impl Form {
+    const fn new(diagram: &'static str) -> Self {
+        assert!(diagram.len() == 32);
+        let (mut mask, mut bits, mut at) = (0, 0, 0);
+        while at < 32 {
+            let (fixed, one) = match diagram.as_bytes()[at] {
+                b'0' => (1, 0),
+                b'1' => (1, 1),
+                letter => {
+                    assert!(letter.is_ascii_lowercase());
+                    (0, 0)
+                }
+            };
+            (mask, bits, at) = (mask << 1 | fixed, bits << 1 | one, at + 1);
+        }
+        Self { diagram, mask, bits }
+    }
+}
+
+/// The instructions of each format, as Arm draws them. What Arm draws none for is unallocated: LDR
+/// (literal) with opc 11 and V 1. B.cond with bit 4 set is BC.cond, which document 02 does not name.
+pub const FORMS: [&[Form]; 6] = [
+    // B and BL: op, 00101, imm26.
+    &[Form::new("o00101iiiiiiiiiiiiiiiiiiiiiiiiii")],
+    &[
+        // B.cond: 01010100, imm19, 0, cond.
+        Form::new("01010100iiiiiiiiiiiiiiiiiii0cccc"),
+        // CBZ and CBNZ: sf, 011010, op, imm19, Rt.
+        Form::new("s011010oiiiiiiiiiiiiiiiiiiittttt"),
+    ],
+    // TBZ and TBNZ: b5, 011011, op, b40, imm14, Rt.
+    &[Form::new("b011011obbbbbiiiiiiiiiiiiiittttt")],
+    // ADR: 0, immlo, 10000, immhi, Rd.
+    &[Form::new("0ii10000iiiiiiiiiiiiiiiiiiiddddd")],
+    // ADRP: 1, immlo, 10000, immhi, Rd.
+    &[Form::new("1ii10000iiiiiiiiiiiiiiiiiiiddddd")],
+    // Literals: opc, 011, V, 00, imm19, Rt.
+    &[
+        // LDR to W and X.
+        Form::new("0o011000iiiiiiiiiiiiiiiiiiittttt"),
+        // LDRSW.
+        Form::new("10011000iiiiiiiiiiiiiiiiiiittttt"),
+        // PRFM.
+        Form::new("11011000iiiiiiiiiiiiiiiiiiittttt"),
+        // LDR to S and D.
+        Form::new("0o011100iiiiiiiiiiiiiiiiiiittttt"),
+        // LDR to Q.
+        Form::new("10011100iiiiiiiiiiiiiiiiiiittttt"),
+    ],
+];
+
+/// Whether a word has the fixed bits of an instruction of the format's form, whatever its field
+/// holds. Refusal 7: no such format.
+pub fn has_form(format: u32, word: u32) -> Result<bool, No> {
+    let forms = FORMS.get(format as usize).ok_or(No(7))?;
+    Ok(forms.iter().any(|form| word & form.mask == form.bits))
+}
+
+/// Order 7, 11, 6, 4, 5.
 pub fn disp_word(format: u32, base: u32, distance: i64) -> Result<u32, No> {
-    let format = FORMATS.get(format as usize).ok_or(No(7))?;
+    if !has_form(format, base)? {
+        return Err(No(11));
+    }
+    let format = &FORMATS[format as usize];
     if format.read(base) != 0 {
         return Err(No(6));
     }
@@ -69,7 +140,7 @@ pub fn disp_word(format: u32, base: u32, distance: i64) -> Result<u32, No> {
     Ok(format.place(base, (distance / format.step) as u64))
 }
 
-/// Order 7, 6, 4, 5, 8.
+/// Order 7, 11, 6, 4, 5, 8.
 pub fn emit_disp_imm(
     run: &mut [u32],
     position: u64,
@@ -86,7 +157,7 @@ pub fn distance(format: u32, target: u64, address: u64) -> i64 {
     target.wrapping_sub(origin) as i64
 }
 
-/// The signed distance that a word spells. Refusal 7: no such format.
+/// The signed distance that a word spells, whatever its form. Refusal 7: no such format.
 pub fn read_disp(word: u32, format: u32) -> Result<i64, No> {
     let format = FORMATS.get(format as usize).ok_or(No(7))?;
     let (number, all) = (format.read(word) as i64, 1 << format.bits());

@@ -1,5 +1,5 @@
-//! A plain model of document 01, written from its text: one function for each entry, in the order
-//! of its sections. It shares nothing with the original.
+//! A plain model of document 01 as document 02's landed requests leave it, written from their text:
+//! one function for each entry, in the order of its sections. It shares nothing with the original.
 
 pub mod displacements;
 pub mod immediates;

@@ -1,7 +1,9 @@
 //! Module 7, for each format. Distances: the limits and their neighbours by one and by one step, 0,
 //! 2,100 random ones in range and 500 outside, the ends of the signed numbers; bases with each
 //! single bit set; wrong formats and no room. Targets: the same edges around several addresses, and
-//! ones that wrap past 2^64. Reading: single bits and random words.
+//! ones that wrap past 2^64. Reading: single bits and random words. Forms: every top byte of a base
+//! with several lower bits, the neighbours of each real base by one bit, the bases of the other
+//! formats, every condition with bit 4 clear and set, and refusals that apply at once.
 
 use super::random::Random;
 use super::{List, U32, room};
@@ -9,18 +11,24 @@ use crate::document::displacements::{FORMATS, Format};
 use crate::replay::request::{Request, entry::*};
 
 pub const LIST: List =
-    List { number: 7, entries: &[DISP_IMM, DISP_TARGET, READ_DISP], requests, any };
+    List { number: 7, entries: &[DISP_IMM, DISP_TARGET, READ_DISP, HAS_FORM], requests, any };
 
 /// Base words of each format: B and BL; B.cond, CBZ and CBNZ; TBZ and TBNZ; ADR; ADRP; LDR X, LDR W,
-/// LDRSW and LDR S.
+/// LDRSW, LDR S, PRFM, LDR D and LDR Q.
 const BASES: [&[u64]; 6] = [
     &[0x1400_0000, 0x9400_0000],
     &[0x5400_0000, 0x3400_0005, 0xB500_001E],
     &[0x3600_0000, 0xB7F8_0003],
     &[0x1000_0000, 0x1000_001E],
     &[0x9000_0000, 0x9000_0007],
-    &[0x5800_0000, 0x1800_0001, 0x9800_0002, 0x1C00_0003],
+    &[0x5800_0000, 0x1800_0001, 0x9800_0002, 0x1C00_0003, 0xD800_0003, 0x5C00_0004, 0x9C00_001F],
 ];
+
+/// A bit that is in the field of every format.
+const FIELD_BIT: u64 = 1 << 5;
+
+/// Lower bits below a top byte: none, bit 4, a register or condition, a bit of the field, all.
+const LOWER: [u64; 5] = [0, 1 << 4, 0xF, FIELD_BIT, 0xFF_FFFF];
 
 fn requests() -> Vec<Request> {
     let mut random = Random::new(7);
@@ -39,7 +47,18 @@ fn requests() -> Vec<Request> {
             list.push(Request::new(DISP_IMM, &[number, base, 2, 0, 0]));
             list.push(Request::new(DISP_TARGET, &[number, base, 2, 0, 0, 0]));
             list.push(Request::new(READ_DISP, &[base, number]));
+            list.push(Request::new(HAS_FORM, &[number, base]));
         }
+    }
+    for (number, format) in (0..).zip(&FORMATS) {
+        top_bytes(&mut list, number, format);
+        neighbours(&mut list, number, format);
+        other_forms(&mut list, number, format);
+        orders(&mut list, number, format);
+    }
+    // Every condition, of B.cond and of BC.cond.
+    for word in 0x5400_0000..0x5400_0020 {
+        forms_asked(&mut list, 1, &FORMATS[1], word);
     }
     list
 }
@@ -117,6 +136,60 @@ fn targets(list: &mut Vec<Request>, number: u64, format: &Format) {
     }
 }
 
+/// A word as a base by distance, one step of the format, and whether it has the format's form.
+fn forms_asked(list: &mut Vec<Request>, number: u64, format: &Format, word: u64) {
+    list.push(Request::new(DISP_IMM, &[number, word, format.step as u64, 1, 0]));
+    list.push(Request::new(HAS_FORM, &[number, word]));
+}
+
+/// Every top byte. Among them are the unallocated literal (DC), B.cond beside BC.cond (54 and bit 4)
+/// and beside no instruction (55).
+fn top_bytes(list: &mut Vec<Request>, number: u64, format: &Format) {
+    for top in 0..256 {
+        LOWER.into_iter().for_each(|low| forms_asked(list, number, format, top << 24 | low));
+    }
+}
+
+/// Each real base with one bit turned over, also by target; and with bits above the 32 that count.
+fn neighbours(list: &mut Vec<Request>, number: u64, format: &Format) {
+    for base in BASES[number as usize] {
+        for word in (0..32).map(|bit| base ^ 1 << bit) {
+            forms_asked(list, number, format, word);
+            let target = 4096 + format.step as u64;
+            list.push(Request::new(DISP_TARGET, &[number, word, target, 4096, 1, 0]));
+        }
+        forms_asked(list, number, format, 1 << 32 | base);
+        list.push(Request::new(HAS_FORM, &[1 << 32 | number, *base]));
+    }
+}
+
+/// The bases of the other formats, which the reader reads all the same.
+fn other_forms(list: &mut Vec<Request>, number: u64, format: &Format) {
+    for word in BASES.concat() {
+        forms_asked(list, number, format, word);
+        list.push(Request::new(DISP_TARGET, &[number, word, 0, 0, 1, 0]));
+        list.push(Request::new(READ_DISP, &[word, number]));
+        list.push(Request::new(READ_DISP, &[word | 0x00A5_5AA0, number]));
+    }
+}
+
+/// Refusals that apply at once, all ways: the format's base or another's, its field clear or not, a
+/// distance that is right, off the step, out of range or both, room or none; also at no format.
+fn orders(list: &mut Vec<Request>, number: u64, format: &Format) {
+    let [own, other] = [number, (number + 1) % 6].map(|number| BASES[number as usize][0]);
+    let far = format.greatest + format.step;
+    for base in [own, own | FIELD_BIT, other, other | FIELD_BIT] {
+        for distance in [format.step, 2, far, far + 1].map(|distance| distance as u64) {
+            for position in [0, 1] {
+                for number in [number, 6] {
+                    list.push(Request::new(DISP_IMM, &[number, base, distance, 1, position]));
+                    list.push(Request::new(DISP_TARGET, &[number, base, distance, 0, 1, position]));
+                }
+            }
+        }
+    }
+}
+
 fn any(entry: u64, random: &mut Random) -> Request {
     let number = random.below(6);
     let format = &FORMATS[number as usize];
@@ -140,6 +213,7 @@ fn any(entry: u64, random: &mut Random) -> Request {
     match entry {
         DISP_IMM => Request::new(entry, &[number, base, distance as u64, len, position]),
         DISP_TARGET => Request::new(entry, &[number, base, target, address, len, position]),
+        HAS_FORM => Request::new(entry, &[number, base]),
         _ => Request::new(entry, &[random.value(), number]),
     }
 }

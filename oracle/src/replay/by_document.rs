@@ -119,6 +119,7 @@ fn module_7(r: &Request) -> Option<Answer> {
             Answer::wrote(position, run)
         }
         READ_DISP => wide(displacements::read_disp(r.low(0), r.low(1)).map(|d| d as u64)),
+        HAS_FORM => numbers(displacements::has_form(format, base).map(|yes| [yes.into()])),
         _ => return None,
     })
 }

@@ -48,6 +48,11 @@ pub enum Class {
     /// A mask of more than 64 bits: the Rust's arithmetic overflows; here all bits are set.
     MaskAbove64,
 
+    // What document 02's request h refuses: there the equality with the Rust is narrowed.
+    /// A base that is no instruction of the format: the Rust places the distance all the same, or
+    /// refuses a distance off the step; here 11.
+    WrongForm,
+
     /// The Rust has no such entry, or cannot be asked this (no room in a lent run, for one).
     Added,
 }
@@ -74,6 +79,7 @@ pub fn class(r: &Request, document: &Answer, rust: &Heard) -> Option<Class> {
         (LOGICAL_WORD, _) => known(r.low(3).max(r.low(4)) > 31 && no(2), LogicalRegister),
         (MOVE, _) => move_class(r, document),
         (PATCHABLE_MOVE, _) => known(r.low(2) > 30 && no(2), PatchableRegister),
+        (DISP_IMM | DISP_TARGET, _) if wrong_form(r) => known(no(11), WrongForm),
         (DISP_IMM, _) => disp_class(r, document),
         (DISP_TARGET, _) => target_class(r, document),
         (ENCODE_FLOAT | ENCODE_BYTE_MASK, _) => known(no(3), Untested),
@@ -95,6 +101,11 @@ fn move_class(r: &Request, document: &Answer) -> Option<Class> {
         (u64::MAX, _) => (document.is_ok() || document.is_no(8)).then_some(AllOnes),
         (value, _) => (value <= 0xFFFF_FFFF && document.is_ok()).then_some(MovnUpperHalf),
     }
+}
+
+/// Whether a base is no instruction of its format.
+fn wrong_form(r: &Request) -> bool {
+    displacements::has_form(r.low(0), r.low(1)) == Ok(false)
 }
 
 fn disp_class(r: &Request, document: &Answer) -> Option<Class> {

@@ -26,6 +26,7 @@ pub mod entry {
     pub const DISP_IMM: u64 = 112;
     pub const DISP_TARGET: u64 = 113;
     pub const READ_DISP: u64 = 114;
+    pub const HAS_FORM: u64 = 115;
     pub const ENCODE_FLOAT: u64 = 128;
     pub const IS_FP16: u64 = 129;
     pub const IS_FP32: u64 = 130;
