@@ -1,4 +1,4 @@
-"""GNU binutils for AArch64, for the judges of this folder: one run of the assembler over many instructions, and the closing lines."""
+"""GNU binutils for AArch64, for the judges of this folder: one run of the assembler or of objdump over many instructions, and the closing lines."""
 import os
 import re
 import shutil
@@ -44,6 +44,20 @@ def assemble(texts, folder):
     with open(raw, "rb") as f:
         data = f.read()
     return [int.from_bytes(data[i : i + 4], "little") for i in range(0, 4 * len(texts), 4)], refused
+
+
+def disassemble(words, folder):
+    """The text that objdump reads from each word, with no aliases, one space between items and no comment."""
+    raw = os.path.join(folder, "words.bin")
+    with open(raw, "wb") as f:
+        f.write(b"".join(w.to_bytes(4, "little") for w in words))
+    made = run("objdump", "-D", "-z", "-b", "binary", "-m", "aarch64", "-M", "no-aliases", raw)
+    if made.returncode != 0:
+        sys.exit("objdump failed: " + made.stderr[:2000])
+    lines = re.findall(r"^\s*[0-9a-f]+:\t[0-9a-f]{8} \t(.*)$", made.stdout, re.MULTILINE)
+    if len(lines) != len(words):
+        sys.exit(f"objdump reads {len(lines)} words of {len(words)}")
+    return [" ".join(line.split("//")[0].split()) for line in lines]
 
 
 def close(lines, failures):

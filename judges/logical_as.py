@@ -6,12 +6,10 @@ the same word for the instruction, or refuse its immediate; and objdump must rea
 lines go through one run of each. The last line is `N passed, M failed`; the exit status is 1 if a line failed. Where the tools are
 missing it says `skipped: ..` and exits 0, after it has read all lines: who writes them must not meet a closed pipe.
 """
-import os
-import re
 import sys
 import tempfile
 
-from gnu import assemble, close, lacks, run
+from gnu import assemble, close, disassemble, lacks
 
 OPERATIONS = ["and", "orr", "eor", "ands"]
 
@@ -35,18 +33,6 @@ def parse(line):
         return None, "a number is out of range"
     target, source = register(rd, width, operation != 3), register(rn, width, False)
     return f"{OPERATIONS[operation]} {target}, {source}, #{value:#x}", word
-
-
-def disassemble(words, folder):
-    """The text that objdump reads from each word, with no aliases."""
-    raw = os.path.join(folder, "words.bin")
-    with open(raw, "wb") as f:
-        f.write(b"".join(w.to_bytes(4, "little") for w in words))
-    made = run("objdump", "-D", "-z", "-b", "binary", "-m", "aarch64", "-M", "no-aliases", raw)
-    if made.returncode != 0:
-        sys.exit("objdump failed: " + made.stderr[:2000])
-    lines = re.findall(r"^\s*[0-9a-f]+:\t[0-9a-f]{8} \t(.*)$", made.stdout, re.MULTILINE)
-    return [" ".join(line.split("//")[0].split()) for line in lines]
 
 
 def main():

@@ -1,5 +1,6 @@
 #!/usr/bin/env python3
-"""stored.py moves|displacements: what the stored answers have written, in the form that moves_qemu.py and displacements_as.py read.
+"""stored.py moves|displacements|forms: what the stored answers have written, or have said of forms, in the form that moves_qemu.py,
+displacements_as.py and forms_objdump.py read.
 
 The stored requests and answers (crates/replay, crates/differences) are what the gate sees the proved programs print, so a judge of them
 judges the programs."""
@@ -8,10 +9,7 @@ import sys
 
 # For an entry that writes: the argument that gives the words of its run, and the one that gives the position.
 WRITES = {18: (0, 1), 19: (0, 1), 49: (5, 6), 80: (2, 3), 96: (3, 4), 112: (3, 4), 113: (4, 5)}
-MOVE, PATCHABLE, DISTANCE = 80, 96, 112
-# The bases that displacements_as.py knows an instruction of, by format.
-BASES = {0: (0x14000000, 0x94000000), 1: (0x54000000, 0xB4000000), 2: (0x36000000, 0xB7000000), 3: (0x10000000,),
-         4: (0x90000000,), 5: (0x58000000, 0x18000000, 0x98000000, 0x1C000000)}
+MOVE, PATCHABLE, DISTANCE, TARGET, HAS_FORM = 80, 96, 112, 113, 115
 
 
 def answered(pair):
@@ -29,12 +27,16 @@ def answered(pair):
             yield entry, arguments, answer, words
 
 
-def written():
+def all_answered():
     for pair in ("replay", "differences"):
-        for entry, arguments, answer, words in answered(pair):
-            if entry in WRITES and answer[0] == "ok":
-                position = arguments[WRITES[entry][1]]
-                yield entry, arguments, words[position:int(answer[1])]
+        yield from answered(pair)
+
+
+def written():
+    for entry, arguments, answer, words in all_answered():
+        if entry in WRITES and answer[0] == "ok":
+            position = arguments[WRITES[entry][1]]
+            yield entry, arguments, words[position:int(answer[1])]
 
 
 def moves():
@@ -48,8 +50,16 @@ def moves():
 
 def displacements():
     for entry, (form, base, bits, *_), words in written():
-        if entry == DISTANCE and base in BASES[form]:
-            print(form, f"{base:x}", bits - 2 ** 64 if bits >> 63 else bits, *words)
+        if entry == DISTANCE:
+            print(form % 2 ** 32, f"{base % 2 ** 32:x}", bits - 2 ** 64 if bits >> 63 else bits, *words)
 
 
-{"moves": moves, "displacements": displacements}[sys.argv[1]]()
+def forms():
+    """A base that gets 11 has not the form; one that gets anything else has it, but for 7, which is told before."""
+    for entry, (form, word, *_), answer, _ in all_answered():
+        if entry in (DISTANCE, TARGET, HAS_FORM) and answer != ["no", "7"]:
+            lacking = ["ok", "0"] if entry == HAS_FORM else ["no", "11"]
+            print(f"{word % 2 ** 32:x}", form % 2 ** 32, "-" if answer == lacking else form % 2 ** 32)
+
+
+{"moves": moves, "displacements": displacements, "forms": forms}[sys.argv[1]]()
