@@ -13,7 +13,7 @@ use Rattle.logical.specs.declared.LogicalImm.{LogicalImm}
 use Rattle.logical.proofs.Model.{encodeOf}
 use Rattle.logical_decoder.proofs.Examples.{normalOf}
 use Rattle.moves.specs.Moves.{others, long, short, movWords, movSaid}
-use Rattle.displacements.specs.Answer.{placeSaid, dispSaid}
+use Rattle.displacements.specs.Answer.{hasForm, placeSaid, dispSaid}
 
 -- N, S, R
 abbrev numbers : Said LogicalImm → Said (List ℕ)
@@ -38,5 +38,5 @@ pub all-right :
     ∷ (dispSaid 0 0x14000000 (pos 134217728), no 5)
     ∷ (dispSaid 5 0x58000000 (pos 8), ok (0x58000040 ∷ []))  -- (12)
     ∷ [])
-unfolding encodeOf wmask esize len highestSetBit Replicate movSaid movWords long short count others placeSaid
+unfolding encodeOf wmask esize len highestSetBit Replicate movSaid movWords long short count others placeSaid hasForm
 all-right = refl
