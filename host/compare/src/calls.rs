@@ -106,6 +106,10 @@ fn asked(r: &Request, tail: usize) -> Result<Answer, String> {
             Ok(distance) => Answer::wide(distance.0 as u64),
             Err(refusal) => Answer::no(refusal.number().into()),
         }),
+        HAS_FORM => {
+            let yes = vaimalofo::has_form(a as u32, b as u32);
+            Ok(numbers(yes.map(|yes| vec![yes.into()])))
+        }
         other => Err(format!("entry {other} has no C entry")),
     }
 }

@@ -8,7 +8,7 @@ use std::process::{Command, Stdio};
 use oracle::document::displacements::FORMATS;
 use oracle::document::logical::masks;
 use oracle::lists::random::Random;
-use vaimalofo::{ByteDistance, Logical, WordPos};
+use vaimalofo::{ByteDistance, Logical, Refusal, WordPos};
 
 use crate::parts::own_base;
 use crate::values;
@@ -16,13 +16,18 @@ use crate::values;
 /// Lines that a script is given at a time.
 const BATCH: usize = 20_000;
 
+/// Words asked for their form, for each sample of another kind.
+const FORMS: usize = 50;
+
 /// Every judge with `samples` of its kind; whether none of them found a difference.
 pub fn run(samples: usize) -> bool {
     let moved = judged("moves_qemu.py", "moves, run under qemu-aarch64", &moves(samples));
     let logical =
         judged("logical_as.py", "logical words, by GNU as and objdump", &logical(samples));
     let near = judged("displacements_as.py", "displacements, by GNU as", &displacements(samples));
-    moved && logical && near
+    let formed =
+        judged("forms_objdump.py", "words at all formats, by objdump", &forms(samples * FORMS));
+    moved && logical && near && formed
 }
 
 /// One judge's verdict on the lines, batch by batch. A missing tool or script is said and is no failure.
@@ -138,4 +143,38 @@ fn displaced(random: &mut Random, format: usize, distance: i64) -> String {
     vaimalofo::displacement(&mut run, WordPos(0), format as u32, base, at)
         .expect("the distance is in range and the field is clear");
     format!("{format} {base:08x} {distance} {:08x}\n", vaimalofo::words(&run)[0])
+}
+
+/// `WORD ASKED SAID`: the formats asked, all of them, and those whose form the word was said to have.
+fn forms(samples: usize) -> Vec<String> {
+    let mut random = Random::new(9 << 48);
+    (0..samples as u64).map(|i| form_line(form_word(&mut random, i))).collect()
+}
+
+/// Half of the words are any; the others a base with one bit turned over, a base's top byte with any bits below, and each top byte in turn.
+fn form_word(random: &mut Random, i: u64) -> u32 {
+    let any = random.value() as u32;
+    let base = own_base(random.below(6) as usize, random);
+    match i % 6 {
+        1 => base ^ 1 << random.below(32),
+        3 => base & 0xFF00_0000 | any >> 8,
+        5 => ((i / 6) as u32) << 24 | any >> 8,
+        _ => any,
+    }
+}
+
+fn form_line(word: u32) -> String {
+    let mut run = [0; 4];
+    let mut said = String::new();
+    for (format, row) in (0..).zip(&FORMATS) {
+        let step = ByteDistance(row.step);
+        let answer = vaimalofo::displacement(&mut run, WordPos(0), format, word, step);
+        let form = answer != Err(Refusal::WrongForm);
+        assert_eq!(vaimalofo::has_form(format, word), Ok(form), "{word:08x} at format {format}");
+        if form {
+            write!(said, "{format}").expect("a string can be written");
+        }
+    }
+    let said = if said.is_empty() { "-" } else { &said };
+    format!("{word:08x} 012345 {said}\n")
 }

@@ -12,9 +12,9 @@ use oracle::replay::classes::Class;
 const USAGE: &str = "compare --short            a slice of everything, for the gate
 compare --full             everything: all 2^32 values, all distances, 100 million mixed values
   --slice K/N              of --full only the items that leave K when divided by N (N odd)
-  --only NAME              one part: fields, moves, displacements, mixed, damaged
+  --only NAME              one part: fields, moves, bases, displacements, mixed, damaged
   --threads T              (else as many as there are processors)
-compare --judges [N]       N samples of each kind for GNU as and qemu-aarch64 (else 20000)";
+compare --judges [N]       N samples of each kind for GNU as, objdump and qemu-aarch64 (else 20000)";
 
 struct Options {
     full: bool,
@@ -66,6 +66,7 @@ fn all_parts(options: &Options) -> Vec<Part> {
     vec![
         parts::fields_32(values),
         parts::moves_32(values),
+        parts::bases(values),
         parts::displacements(distances),
         parts::mixed(mixed),
         parts::damaged(damaged),
@@ -87,6 +88,7 @@ fn what_the_rust_does(class: Class) -> &'static str {
         Class::LdrSplit => "splits the field of LDR 19 as for ADR",
         Class::TargetFromFour => "counts targets from four bytes on",
         Class::TargetOverflow => "overflows at a target too far for 64 signed bits",
+        Class::WrongForm => "places a distance in any base, or refuses one off the step",
         Class::Added => "has no such entry, or cannot be asked this (no room, for one)",
         _ => "differs in a class that no C entry has",
     }
@@ -98,6 +100,9 @@ fn report(part: &Part, tally: &Tally, seconds: f64) {
     println!("  {:>12} as document 01 and the Rust", tally.same);
     for (class, count) in &tally.differs {
         println!("  {count:>12} as document 01; the Rust {}", what_the_rust_does(*class));
+    }
+    if tally.alone > 0 {
+        println!("  {:>12} as document 01; the Rust was not asked", tally.alone);
     }
     for failure in &tally.failures {
         println!("  FAILED {failure}");

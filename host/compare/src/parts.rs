@@ -1,12 +1,12 @@
 //! The parts of the comparison.
 
-use oracle::document::displacements::FORMATS;
+use oracle::document::displacements::{self, FORMATS};
 use oracle::document::{logical, moves, No};
 use oracle::lists::random::Random;
 use oracle::replay::classes::Class;
 use oracle::replay::request::{entry::*, Request};
 use oracle::rust;
-use vaimalofo::{Fields, WordPos};
+use vaimalofo::{ByteDistance, Fields, Refusal, WordPos};
 
 use crate::calls::compare;
 use crate::put;
@@ -109,6 +109,61 @@ fn move_of(value: u64, tally: &mut Tally) {
     }
 }
 
+/// Every word as a base of each format, and its form.
+pub fn bases(slice: Slice) -> Part {
+    Part {
+        name: "bases",
+        what: format!("{} 2^32 words as bases of each format, at a distance of one step; and whether each has the format's form", slice.text()),
+        items: slice.count(1 << 32),
+        check: Box::new(move |i, tally| {
+            let word = slice.item(i) as u32;
+            for format in 0..6 {
+                check_base(format, word, tally);
+                check_form(format, word, tally);
+            }
+        }),
+    }
+}
+
+/// The Rust, which looks at no base, is asked where the base is accepted.
+fn check_base(format: u32, base: u32, tally: &mut Tally) {
+    let step = FORMATS[format as usize].step;
+    let document = displacements::disp_word(format, base, step);
+    let mut run = RUN;
+    let answer = vaimalofo::displacement(&mut run, WordPos(1), format, base, ByteDistance(step));
+    let mut expected = RUN;
+    if let Ok(word) = document {
+        put(&mut expected, 1, &[word]);
+    }
+    if answer.map_err(number) != document.map(|_| WordPos(2)) || run != expected {
+        return tally.fails(|| {
+            format!("base {base:08x} at format {format}: {answer:?} {run:x?}, document 01 {document:x?}")
+        });
+    }
+    match document {
+        Ok(_) => {
+            let numbers = [format.into(), base.into(), step as u64, 3, 1];
+            compare(&Request::new(DISP_IMM, &numbers), 2, tally)
+        }
+        Err(_) => tally.alone += 1,
+    }
+}
+
+fn check_form(format: u32, word: u32, tally: &mut Tally) {
+    let answer = vaimalofo::has_form(format, word);
+    let document = displacements::has_form(format, word);
+    match answer.map_err(number) == document {
+        true => tally.alone += 1,
+        false => tally
+            .fails(|| format!("form {format} of {word:08x}: {answer:?}, document 01 {document:?}")),
+    }
+}
+
+/// A refusal as the model gives it.
+fn number(refusal: Refusal) -> No {
+    No(refusal.number().into())
+}
+
 // ---- distances
 
 /// How far beyond both ends of a format's range distances are asked, in steps.
@@ -206,7 +261,7 @@ fn check_distance(format: usize, distance: i64, random: &mut Random, tally: &mut
     let target = origin.wrapping_add_signed(distance);
     compare(&Request::new(DISP_TARGET, &[number, base, target, address, 1, 0]), tail, tally);
     let mut run = [0; 4];
-    let at = vaimalofo::ByteDistance(distance);
+    let at = ByteDistance(distance);
     let word = match vaimalofo::displacement(&mut run, WordPos(0), number as u32, base as u32, at) {
         Ok(_) => vaimalofo::words(&run)[0],
         Err(_) => random.value() as u32,
@@ -258,7 +313,7 @@ pub fn damaged(count: u64) -> Part {
 fn damaged_item(item: u64, tally: &mut Tally) {
     let mut random = random(3, item);
     let r = &mut random;
-    let value = values::mixed(r, item / 7);
+    let value = values::mixed(r, item / 8);
     let (length, tail) = (r.below(9), r.below(4) as usize);
     let position = match r.below(4) {
         0 => r.value(),
@@ -269,7 +324,7 @@ fn damaged_item(item: u64, tally: &mut Tally) {
     let (format, operation) = (one_in_two(r, &[0, 1, 2, 3, 4, 5]), one_in_two(r, &[0, 1, 2, 3]));
     let (rn, rd) = (one_in_two(r, &[0, 30, 31, 32]), one_in_two(r, &[0, 30, 31, 32]));
     let base = base(format as usize % 6, r);
-    let request = match item % 7 {
+    let request = match item % 8 {
         0 => Request::new(MOVE, &[value, rd, length, position]),
         1 => Request::new(PATCHABLE_MOVE, &[value, width, rd, length, position]),
         2 => Request::new(ENCODE_LOGICAL, &[value, width]),
@@ -279,7 +334,8 @@ fn damaged_item(item: u64, tally: &mut Tally) {
             DISP_TARGET,
             &[format, base, near(value, r), r.value() >> 32, length, position],
         ),
-        _ => Request::new(READ_DISP, &[value & 0xFFFF_FFFF, format]),
+        6 => Request::new(READ_DISP, &[value & 0xFFFF_FFFF, format]),
+        _ => Request::new(HAS_FORM, &[format, base]),
     };
     compare(&request, tail, tally);
 }

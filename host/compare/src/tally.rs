@@ -13,6 +13,8 @@ pub struct Tally {
     pub same: u64,
     /// The entry answered as document 01 does, and the Rust differs in a listed way.
     pub differs: BTreeMap<Class, u64>,
+    /// The entry answered as document 01 does; the Rust was not asked.
+    pub alone: u64,
     /// Anything else.
     pub failed: u64,
     pub failures: Vec<String>,
@@ -31,11 +33,12 @@ impl Tally {
     }
 
     pub fn calls(&self) -> u64 {
-        self.same + self.differs.values().sum::<u64>() + self.failed
+        self.same + self.differs.values().sum::<u64>() + self.alone + self.failed
     }
 
     pub fn add(&mut self, other: Tally) {
         self.same += other.same;
+        self.alone += other.alone;
         self.failed += other.failed;
         for (class, count) in other.differs {
             *self.differs.entry(class).or_default() += count;
