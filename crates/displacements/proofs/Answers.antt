@@ -11,13 +11,14 @@ use lib.IntN.{ℤ, pos, negsuc, natAbs}
 use lib.Pow.{pow-add, pow-pos}
 use lib.Signed.{mag, ltZ}
 use Rattle.words.specs.Said.{Said, ok, no}
+use Rattle.forms.specs.Form.{hasForm, Formed}
 use Rattle.arm.proofs.Tests.{never}
 use Rattle.words.proofs.Answers.{Short, Alone, Numbered, alone-short}
 use Rattle.displacements.specs.declared.Form.{Form}
 use Rattle.displacements.specs.Forms.{formOf, fieldIn, putIn, step, reach, least, greatest}
-use Rattle.displacements.specs.Answer.{hasForm, placeSaid, stepsOf, dispSaid}
+use Rattle.displacements.specs.Answer.{placeSaid, stepsOf, dispSaid}
 use Rattle.displacements.specs.Private.{Sound}
-use Rattle.displacements.specs.Says.{Says, unknown, alien, taken, off, far, word, Formed, Based, Free, OnStep, InRange}
+use Rattle.displacements.specs.Says.{Says, unknown, alien, taken, off, far, word, Based, Free, OnStep, InRange}
 
 -- ---- document 01's range: on the step, in reach is from the least to the greatest distance
 

@@ -19,19 +19,21 @@ use mir.Facts.{toZ-ofZ, ofZ-toZ, sfits-toZ}
 use Rattle.arm.specs.FixedBits.{isBcond, isCBZ}
 use Rattle.arm.proofs.SignExtends.{extend, extended}
 use Rattle.words.specs.Said.{Said, ok, no}
+use Rattle.forms.specs.Form.{hasForm, Formed, formSaid}
 use Rattle.writers.specs.Put.{putOf}
 use Rattle.words.proofs.Answers.{not-both}
 use Rattle.words.proofs.Fields.{part, bit, bit-of-clear, clear-of-bits}
+use Rattle.forms.proofs.Instructions.{one-form}
 use Rattle.writers.proofs.Writes.{put-full, put-fits, put-done}
 use Rattle.displacements.specs.declared.Form.{Form}
 use Rattle.displacements.specs.Forms.{forms, formOf, fieldIn, putIn, step, reach, least, greatest}
-use Rattle.displacements.specs.Answer.{hasForm, formSaid, stepsOf, placeSaid, dispSaid, originOf, between, targetSaid, offset, readSaid}
+use Rattle.displacements.specs.Answer.{stepsOf, placeSaid, dispSaid, originOf, between, targetSaid, offset, readSaid}
 use Rattle.displacements.specs.Private.{Sound, offsetIn}
-use Rattle.displacements.specs.Says.{Says, unknown, alien, taken, off, far, word, Formed, Based, Free, OnStep, InRange}
+use Rattle.displacements.specs.Says.{Says, unknown, alien, taken, off, far, word, Based, Free, OnStep, InRange}
 use Rattle.displacements.proofs.Laws.{sound, arm-reads, Outside, put-there, put-kept, rest-free, lows-free}
 use Rattle.displacements.proofs.Distances.{steps-bits, bits-steps, steps-back}
 use Rattle.displacements.proofs.Answers.{says, answers}
-use Rattle.displacements.proofs.Instructions.{one-form, forms-kept, conds-kept}
+use Rattle.displacements.proofs.Kept.{forms-kept, conds-kept}
 
 -- ---- the table is document 01's: step, least, greatest
 

@@ -4,28 +4,14 @@ use denote.Ref.{now}
 use lib.IntN.{ℤ}
 use Rattle.words.proofs.Answers.{all-said, answered, refusal-back, made-all}
 use Rattle.words.proofs.Contracts.{OneAnswer, OneWrite, one-answer, one-write}
-use Rattle.displacements.specs.declared.FormAnswer.{FormAnswer}
-use Rattle.displacements.specs.declared.FormAnswer.the-variants.{OfForm, NoForm}
 use Rattle.displacements.specs.declared.DistanceAnswer.{DistanceAnswer}
 use Rattle.displacements.specs.declared.DistanceAnswer.the-variants.{Distance, NoDistance}
-use Rattle.displacements.specs.Answer.{ofFormSaid, distanceSaid}
-use Rattle.displacements.proofs.has_form.Reads as has-form
+use Rattle.displacements.specs.Answer.{distanceSaid}
 use Rattle.displacements.proofs.disp_word.Reads as disp-word
 use Rattle.displacements.proofs.disp_target_word.Reads as disp-target-word
 use Rattle.displacements.proofs.emit_disp_imm.Reads as emit-disp-imm
 use Rattle.displacements.proofs.emit_disp_target.Reads as emit-disp-target
 use Rattle.displacements.proofs.read_disp.Reads as read-disp
-
--- what the answers of the test and of the reader say is all of them
-form-back : (r : FormAnswer) → answered OfForm NoForm (ofFormSaid r) ≡ r
-form-back (OfForm b) = refl
-form-back (NoForm r) = ap NoForm (refusal-back r)
-
-pub form-all : (r s : FormAnswer) → ofFormSaid r ≡ ofFormSaid s → r ≡ s
-form-all = all-said ofFormSaid (answered OfForm NoForm) form-back
-
-pub has-form-determined : OneAnswer has-form.Post
-has-form-determined k a r s x y p q = form-all r s (one-answer p q)
 
 pub disp-word-determined : OneAnswer disp-word.Post
 disp-word-determined k a r s x y p q = made-all r s (one-answer p q)
@@ -39,6 +25,7 @@ emit-disp-imm-determined k a r s x y p q = one-write r s p q
 pub emit-disp-target-determined : OneWrite emit-disp-target.Post (λ k x. now (x .0))
 emit-disp-target-determined k a r s x y p q = one-write r s p q
 
+-- what the reader's answer says is all of it
 abbrev distanceOf : ℤ → DistanceAnswer
 distanceOf d = Distance (record { 0 = d })
 

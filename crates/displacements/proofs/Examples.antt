@@ -1,12 +1,12 @@
 -- Worked values: "Run only" of document 01, and values at the edges. Assumes nothing.
 use mathlib.Core.Path.{refl}
-use mathlib.Core.Bool.{true, false}
 use mathlib.Core.List.{[], _∷_}
 use Prim.Native.Nat.{_^_}
 use lib.IntN.{pos, negℤ}
 use Rattle.arm.proofs.Worked.{Worked}
 use Rattle.words.specs.Said.{ok, no}
-use Rattle.displacements.specs.Answer.{hasForm, formSaid, placeSaid, dispSaid, targetSaid, readSaid}
+use Rattle.forms.specs.Form.{hasForm}
+use Rattle.displacements.specs.Answer.{placeSaid, dispSaid, targetSaid, readSaid}
 
 pub written-right :
     Worked
@@ -32,19 +32,6 @@ pub written-right :
     ∷ [])
 unfolding placeSaid hasForm
 written-right = refl
-
-pub forms-right :
-    Worked
-    ((formSaid 0 0x17FFFFFF, ok true)  -- whatever the field holds
-    ∷ (formSaid 1 0x17FFFFFF, ok false)
-    ∷ (formSaid 1 0x54FFFFCF, ok true)
-    ∷ (formSaid 1 0xB5FFFFFE, ok true)
-    ∷ (formSaid 5 0x9C00009F, ok true)
-    ∷ (formSaid 5 0xDC00009F, ok false)
-    ∷ (formSaid 6 0x14000000, no 7)
-    ∷ [])
-unfolding hasForm
-forms-right = refl
 
 pub read-right :
     Worked

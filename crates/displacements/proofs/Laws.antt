@@ -10,22 +10,13 @@ use lib.Pow.{pow-pos, pow-mono, shr-lt, split, shl-lt, shl-exact}
 use Rattle.arm.proofs.SignExtends.{power}
 use Rattle.words.proofs.Fields.{part, part-below, part-there, part-above, high-kept}
 use Rattle.words.proofs.Low.{least-below}
+use Rattle.forms.proofs.Formats.{each}
 use Rattle.displacements.specs.declared.Form.{Form}
 use Rattle.displacements.specs.Forms.{formOf, fieldIn, putIn, step}
 use Rattle.displacements.specs.Answer.{offset}
 use Rattle.displacements.specs.Private.{offsetIn, Sound}
 
 -- ---- the table
-
--- a fact of each of the six is a fact of all
-pub each : (P : ℕ → Type 0) → P 0 → P 1 → P 2 → P 3 → P 4 → P 5 → (n : ℕ) → n < 6 → P n
-each P a b c d e f zero h = a
-each P a b c d e f (suc zero) h = b
-each P a b c d e f (suc (suc zero)) h = c
-each P a b c d e f (suc (suc (suc zero))) h = d
-each P a b c d e f (suc (suc (suc (suc zero)))) h = e
-each P a b c d e f (suc (suc (suc (suc (suc zero))))) h = f
-each P a b c d e f (suc (suc (suc (suc (suc (suc n)))))) h = absurd (omega arith)
 
 pub sound : (n : ℕ) → n < 6 → Sound (formOf n)
 sound = each (λ n. Sound (formOf n)) (search needs) (search needs) (search needs) (search needs) (search needs) (search needs)

@@ -2,7 +2,7 @@
 pub mod Laws
 pub mod Distances
 pub mod Answers
-pub mod Instructions
+pub mod Kept
 pub mod Demands
 pub mod Determined
 pub mod Examples

@@ -1,5 +1,5 @@
 -- What the entries say. Assumes nothing.
-use mathlib.Core.Bool.{Bool, false, cond, not, _||_}
+use mathlib.Core.Bool.{cond, not, _||_}
 use mathlib.Core.List.{List, [], _∷_}
 use Prim.Native.Nat.{ℕ, _+_, _-_, _/_, _%_, _^_}
 use lib.Dec.{eqb, ltb}
@@ -9,31 +9,13 @@ use lib.Signed.{ltZ}
 use mir.Syntax.{w64}
 use mir.Val.{toZ, ofZ}
 use Rattle.arm.specs.Displacements.{B, Bcond, TBZ, ADR, ADRP, LDR}
-use Rattle.arm.specs.FixedBits.{isB, isBcond, isCBZ, isTBZ, isADR, isADRP, isLDR}
 use Rattle.words.specs.Said.{Said, ok, no}
 use Rattle.words.specs.Answer.{numberOf}
+use Rattle.forms.specs.Form.{hasForm}
 use Rattle.displacements.specs.declared.Form.{Form}
-use Rattle.displacements.specs.declared.FormAnswer.{FormAnswer}
-use Rattle.displacements.specs.declared.FormAnswer.the-variants.{OfForm, NoForm}
 use Rattle.displacements.specs.declared.DistanceAnswer.{DistanceAnswer}
 use Rattle.displacements.specs.declared.DistanceAnswer.the-variants.{Distance, NoDistance}
 use Rattle.displacements.specs.Forms.{formOf, fieldIn, putIn, step, least, greatest}
-
--- ---- the instructions of a format
-
--- "the fixed bits of an instruction of that form (B and BL; B.cond, CBZ and CBNZ; TBZ and TBNZ; ADR; ADRP; LDR, LDRSW and PRFM literal, including
--- the SIMD ones)"
-unfoldable pub hasForm : ℕ → ℕ → Bool
-hasForm n w = getD (isB w ∷ (isBcond w || isCBZ w) ∷ isTBZ w ∷ isADR w ∷ isADRP w ∷ isLDR w ∷ []) n false
-
--- whether a word has them, or refusal 7
-abbrev pub formSaid : ℕ → ℕ → Said Bool
-formSaid n w = cond (ltb 5 n) (no 7) (ok (hasForm n w))
-
--- the test's answer says yes or no
-abbrev pub ofFormSaid : FormAnswer → Said Bool
-ofFormSaid (OfForm b) = ok b
-ofFormSaid (NoForm r) = no (numberOf r)
 
 -- ---- writing: order 7, 11, 6, 4, 5
 

@@ -1,18 +1,14 @@
 -- When each thing is said: what the definitions of Answer.antt are proved to mean, in both directions. Assumes nothing.
 use mathlib.Core.Path.{_≡_}
-use mathlib.Core.Bool.{true}
 use mathlib.Core.List.{List, [], _∷_}
 use Prim.Native.Nat.{ℕ, _%_, _≤_, _<_}
 use lib.IntN.{ℤ, natAbs}
 use lib.Signed.{_≤ℤ_}
 use Rattle.words.specs.Said.{Said, ok, no}
+use Rattle.forms.specs.Form.{Formed}
 use Rattle.displacements.specs.declared.Form.{Form}
 use Rattle.displacements.specs.Forms.{formOf, fieldIn, putIn, step, least, greatest}
-use Rattle.displacements.specs.Answer.{hasForm, stepsOf}
-
--- the word has the fixed bits of an instruction of format n
-abbrev pub Formed : ℕ → ℕ → Type 0
-Formed n b = hasForm n b ≡ true
+use Rattle.displacements.specs.Answer.{stepsOf}
 
 -- a format there is, and a base of its form
 pub record Based (n b : ℕ) : Type 0 where

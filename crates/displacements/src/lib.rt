@@ -7,13 +7,11 @@ use words::Worded;
 use words::Written;
 ghost use mathlib.Core.Path.{_≡_};
 ghost use Prim.Native.Nat.{_^_, _<_};
-ghost use lib.Bits.{bitAnd};
-ghost use lib.Dec.{eqb};
 ghost use Rattle.words.specs.Answer.{said, made};
 ghost use Rattle.words.specs.Listed.{packed};
 ghost use Rattle.writers.specs.Put.{putOf};
 ghost use Rattle.displacements.specs.Forms.{formOf, fieldIn, putIn};
-ghost use Rattle.displacements.specs.Answer.{hasForm, formSaid, ofFormSaid, placeSaid, dispSaid, originOf, between, targetSaid, readSaid, distanceSaid};
+ghost use Rattle.displacements.specs.Answer.{placeSaid, dispSaid, originOf, between, targetSaid, readSaid, distanceSaid};
 ghost use Rattle.displacements.specs.Private.{offsetIn, Sound};
 
 // A format: distances in steps of 2 ^ scale bytes, in a field of `bits` bits, of which the low ones, `low` in number, stand at bit 29 of the
@@ -23,12 +21,6 @@ struct Form {
     bits: u32,
     low: u32,
     at: u32,
-}
-
-// What the test of a word's form answers.
-pub enum FormAnswer {
-    OfForm(bool),
-    NoForm(Refusal),
 }
 
 // What the reader answers.
@@ -62,39 +54,6 @@ fn form_of(format: u32) -> Form
         5 => row(2, 19, 0, 5),
         _ => row(0, 0, 0, 0),
     }
-}
-
-// Whether the bits of a word under a mask are these.
-fn fixed(w: u32, mask: u32, bits: u32) -> bool
-    ensures { λ r. ⌜ r ≡ eqb (bitAnd w mask) bits ⌝ }
-{
-    w & mask == bits
-}
-
-// Whether a word has the fixed bits of an instruction of a format: B and BL; B.cond, CBZ and CBNZ; TBZ and TBNZ; ADR; ADRP; the literal LDR,
-// LDRSW and PRFM, of which DC in the top byte is none. From 6 on there is no format.
-fn of_form(format: u32, w: u32) -> bool
-    ensures { λ r. ⌜ r ≡ hasForm format w ⌝ }
-{
-    match format {
-        0 => fixed(w, 0x7C00_0000, 0x1400_0000),
-        1 => fixed(w, 0xFF00_0010, 0x5400_0000) || fixed(w, 0x7E00_0000, 0x3400_0000),
-        2 => fixed(w, 0x7E00_0000, 0x3600_0000),
-        3 => fixed(w, 0x9F00_0000, 0x1000_0000),
-        4 => fixed(w, 0x9F00_0000, 0x9000_0000),
-        5 => fixed(w, 0x3B00_0000, 0x1800_0000) && !fixed(w, 0xFF00_0000, 0xDC00_0000),
-        _ => false,
-    }
-}
-
-// Whether a word is an instruction of a format, whatever its field holds: 7.
-pub fn has_form(format: u32, word: Opc) -> FormAnswer
-    ensures { λ r. ⌜ ofFormSaid r ≡ formSaid format (word .0) ⌝ }
-{
-    if 5 < format {
-        return FormAnswer::NoForm(Refusal::Unknown);
-    }
-    FormAnswer::OfForm(of_form(format, word.0))
 }
 
 // The field of a word, its low bits and the rest put together.
@@ -144,7 +103,7 @@ pub fn disp_word(format: u32, base: Opc, distance: ByteDistance) -> Worded
     if 5 < format {
         return Worded::Not(Refusal::Unknown);
     }
-    if !of_form(format, base.0) {
+    if !forms::of_form(format, base) {
         return Worded::Not(Refusal::WrongForm);
     }
     place(form_of(format), base, distance)

@@ -13,7 +13,8 @@ use Rattle.logical.specs.declared.LogicalImm.{LogicalImm}
 use Rattle.logical.proofs.Model.{encodeOf}
 use Rattle.logical_decoder.proofs.Examples.{normalOf}
 use Rattle.moves.specs.Moves.{others, long, short, movWords, movSaid}
-use Rattle.displacements.specs.Answer.{hasForm, placeSaid, dispSaid}
+use Rattle.forms.specs.Form.{hasForm}
+use Rattle.displacements.specs.Answer.{placeSaid, dispSaid}
 
 -- N, S, R
 abbrev numbers : Said LogicalImm → Said (List ℕ)

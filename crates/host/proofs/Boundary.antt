@@ -27,7 +27,8 @@ use Rattle.moves.specs.Moves.{movSaid}
 use Rattle.moves.proofs.Demands.{mov-said}
 use Rattle.patchable_moves.specs.Patchable.{patchSaid}
 use Rattle.patchable_moves.proofs.Demands.{patch-said}
-use Rattle.displacements.specs.Answer.{dispSaid, originOf, between, targetSaid, formSaid, readSaid, offset}
+use Rattle.forms.specs.Form.{formSaid}
+use Rattle.displacements.specs.Answer.{dispSaid, originOf, between, targetSaid, readSaid, offset}
 use Rattle.displacements.proofs.Demands.{form-yes, read-back, arrives}
 use Rattle.displacements.proofs.Answers.{alone}
 use Rattle.host.specs.Number.{refusalIn, valueIn, Reads, counted, wordsFrom, wordAt, spelled, yesNo}

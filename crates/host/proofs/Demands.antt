@@ -27,10 +27,12 @@ use Rattle.patchable_moves.proofs.Lengths.{patch-by, patch64-length, patch32-le
 use Rattle.logical.specs.Answer.{Encoded}
 use Rattle.logical.specs.declared.LogicalImm.{LogicalImm}
 use Rattle.logical_words.specs.Word.{baseOf, filled, wordOf}
-use Rattle.displacements.specs.Answer.{dispSaid, hasForm, formSaid, readSaid, offset}
+use Rattle.forms.specs.Form.{hasForm, formSaid}
+use Rattle.forms.proofs.Formats.{each}
+use Rattle.displacements.specs.Answer.{dispSaid, readSaid, offset}
 use Rattle.displacements.specs.Forms.{formOf, fieldIn, step}
 use Rattle.displacements.proofs.Answers.{alone, numbered}
-use Rattle.displacements.proofs.Laws.{each, sound, arm-reads, offset-lt}
+use Rattle.displacements.proofs.Laws.{sound, arm-reads, offset-lt}
 use Rattle.host.specs.Number.{told, refusalIn, valueIn, Reads, counted, hostOf, spelled, yesNo}
 use Rattle.host.proofs.Reading.{Small, told-reads, extended-mag}
 

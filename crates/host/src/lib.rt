@@ -2,7 +2,7 @@
 // refused), and in the bits above it, read as signed, the value (0 with a refusal). A position counts words; a word is four bytes, low byte
 // first; a tail under four bytes is no room.
 use displacements::DistanceAnswer;
-use displacements::FormAnswer;
+use forms::FormAnswer;
 use logical::LogicalAnswer;
 use logical::LogicalImm;
 use words::ByteDistance;
@@ -20,7 +20,8 @@ ghost use Rattle.writers.specs.Put.{putBytesOf};
 ghost use Rattle.logical_words.specs.Word.{ForWord};
 ghost use Rattle.moves.specs.Moves.{movSaid};
 ghost use Rattle.patchable_moves.specs.Patchable.{patchSaid};
-ghost use Rattle.displacements.specs.Answer.{dispSaid, targetSaid, formSaid, readSaid};
+ghost use Rattle.displacements.specs.Answer.{dispSaid, targetSaid, readSaid};
+ghost use Rattle.forms.specs.Form.{formSaid};
 ghost use Rattle.host.specs.Number.{told, counted, hostOf, spelled, ForFields, yesNo};
 ghost use Rattle.host.specs.Private.{Near};
 
@@ -168,7 +169,7 @@ fn yes(b: bool) -> u64
 pub extern "C" fn vaimalofo_has_form(format: u32, word: u32) -> u64
     ensures { λ r. ⌜ r ≡ told (yesNo (formSaid format word)) ⌝ }
 {
-    match displacements::has_form(format, Opc(word)) {
+    match forms::has_form(format, Opc(word)) {
         FormAnswer::OfForm(b) => yes(b),
         FormAnswer::NoForm(r) => refused(r),
     }

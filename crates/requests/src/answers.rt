@@ -3,7 +3,7 @@ use crate::Request;
 use crate::low;
 use crate::wide;
 use displacements::DistanceAnswer;
-use displacements::FormAnswer;
+use forms::FormAnswer;
 use fp_picks::PickAnswer;
 use immediates::Imm8Answer;
 use lines::Answer;
@@ -107,7 +107,7 @@ fn reads(r: Request) -> Answer {
     let k = r.entry;
     match k {
         114 => distance(displacements::read_disp(Opc(low(r.a)), low(r.b))),
-        115 => form(displacements::has_form(low(r.a), Opc(low(r.b)))),
+        115 => form(forms::has_form(low(r.a), Opc(low(r.b)))),
         _ => Answer::No(Refusal::Unknown),
     }
 }

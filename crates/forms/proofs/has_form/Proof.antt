@@ -1,11 +1,11 @@
--- `displacements::has_form` meets its contract. Assumes nothing.
+-- `forms::has_form` meets its contract. Assumes nothing.
 use mathlib.Core.Path.{ap}
 use mathlib.Core.Bool.{Bool}
 use borrow.Author.Needs.{needs}
 use borrow.Author.Tests.{lt-ltb, le-ltb}
 use Rattle.words.specs.Said.{Said, ok}
-use Rattle.displacements.proofs.has_form.Statement.{statement}
-use Rattle.displacements.proofs.has_form.Tie as tie
+use Rattle.forms.proofs.has_form.Statement.{statement}
+use Rattle.forms.proofs.has_form.Tie as tie
 
 returns : tie.Need-returns
 returns c = simp (lt-ltb _ _ (c .if1 .taken))

@@ -1,7 +1,6 @@
--- The fixed bits of a format's instructions: outside its field, told by the top byte and bit 4 of a word, as the code's masks test them, and those of
--- one format only. Assumes nothing.
+-- The fixed bits of a format's instructions: told by the top byte and bit 4 of a word, as the code's masks test them, and those of one format only.
+-- Assumes nothing.
 use mathlib.Core.Path.{_≡_, refl, sym, ap, _∙_}
-use mathlib.Core.Logic.{inl, inr}
 use mathlib.Core.Bool.{Bool, true, false, cond, not, _&&_, _||_}
 use mathlib.Core.List.{List, [], _∷_}
 use Prim.Native.Nat.{ℕ, _+_, _-_, _*_, _/_, _%_, _^_, _<_, _≤_}
@@ -16,46 +15,13 @@ use Rattle.arm.specs.Bits.{bits}
 use Rattle.arm.specs.FixedBits.{isB, isBcond, isCBZ, isTBZ, isADR, isADRP, isLDR}
 use Rattle.words.proofs.Fields.{part, part-part}
 use Rattle.words.proofs.Table.{below, below-at}
-use Rattle.displacements.specs.Forms.{formOf}
-use Rattle.displacements.specs.Answer.{hasForm}
-use Rattle.displacements.specs.Says.{Formed}
-use Rattle.displacements.proofs.Laws.{each, Outside}
+use Rattle.forms.specs.Form.{hasForm, Formed}
+use Rattle.forms.proofs.Formats.{each}
 
 -- from 6 on there is no format
 pub no-format : (w n : ℕ) → 6 ≤ n → hasForm n w ≡ false
 unfolding hasForm
 no-format w n h = List·getD-eq-default (isB w ∷ (isBcond w || isCBZ w) ∷ isTBZ w ∷ isADR w ∷ isADRP w ∷ isLDR w ∷ []) false {n = n} h
-
--- ---- outside the field
-
-module _ (w b : ℕ) where
-  -- two words that are alike outside the field of format n
-  abbrev Alike : ℕ → Type 0
-  Alike n = (q l : ℕ) → Outside (formOf n) q l → part q l w ≡ part q l b
-
-  pub conds-kept : Alike 1 → (isBcond w ≡ isBcond b) × (isCBZ w ≡ isCBZ b)
-  conds-kept k =
-      let top : part 25 7 w ≡ part 25 7 b = k 25 7 (record { rest = inr (omega arith); lows = inl refl }) in
-      let op : part 24 1 w ≡ part 24 1 b = k 24 1 (record { rest = inr (omega arith); lows = inl refl }) in
-      let low : part 4 1 w ≡ part 4 1 b = k 4 1 (record { rest = inl (omega arith); lows = inl refl }) in
-      let six : part 25 6 w ≡ part 25 6 b = k 25 6 (record { rest = inr (omega arith); lows = inl refl }) in
-      (rw (top, op, low), rw six)
-
-  pub forms-kept : (n : ℕ) → n < 6 → Alike n → hasForm n w ≡ hasForm n b
-  unfolding hasForm
-  forms-kept =
-      each (λ n. Alike n → hasForm n w ≡ hasForm n b)
-      (λ k. rw (k 26 5 (record { rest = inr (omega arith); lows = inl refl })))
-      (λ k. rw (conds-kept k .0, conds-kept k .1))
-      (λ k. rw (k 25 6 (record { rest = inr (omega arith); lows = inl refl })))
-      (λ k. rw (k 31 1 (record { rest = inr (omega arith); lows = inr (inr (omega arith)) }), k 24 5 (record { rest = inr (omega arith); lows = inr (inl (omega arith)) })))
-      (λ k. rw (k 31 1 (record { rest = inr (omega arith); lows = inr (inr (omega arith)) }), k 24 5 (record { rest = inr (omega arith); lows = inr (inl (omega arith)) })))
-      (λ k. rw (
-        k 27 3 (record { rest = inr (omega arith); lows = inl refl }),
-        k 24 2 (record { rest = inr (omega arith); lows = inl refl }),
-        k 30 2 (record { rest = inr (omega arith); lows = inl refl }),
-        k 26 1 (record { rest = inr (omega arith); lows = inl refl }),
-      ))
 
 -- ---- told by the top byte and bit 4
 

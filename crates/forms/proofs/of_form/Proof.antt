@@ -1,17 +1,17 @@
--- `displacements::of_form` meets its contract. Assumes nothing.
+-- `forms::of_form` meets its contract. Assumes nothing.
 use mathlib.Core.Path.{_≡_, sym, ap, _∙_}
 use mathlib.Core.Bool.{not}
 use Prim.Native.Nat.{ℕ, _<_}
 use native.Mathlib.Omega.{arith}
 use borrow.Author.Needs.{needs}
-use Rattle.displacements.specs.Answer.{hasForm}
-use Rattle.displacements.proofs.Instructions.{masked, by-masks, no-format}
-use Rattle.displacements.proofs.of_form.Statement.{statement}
-use Rattle.displacements.proofs.of_form.Tie as tie
+use Rattle.forms.specs.Form.{hasForm}
+use Rattle.forms.proofs.Instructions.{masked, by-masks, no-format}
+use Rattle.forms.proofs.of_form.Statement.{statement}
+use Rattle.forms.proofs.of_form.Tie as tie
 
 -- the masks of format k are the fixed bits of the format asked for
-form : (c : tie.Start) (k : ℕ) → k < 6 → c .args .format ≡ k → masked k (c .args .w) ≡ hasForm (c .args .format) (c .args .w)
-form c k h e = by-masks (c .args .w) (search needs) k h ∙ sym (ap (λ (n : ℕ). hasForm n (c .args .w)) e)
+form : (c : tie.Start) (k : ℕ) → k < 6 → c .args .format ≡ k → masked k (c .args .w .0) ≡ hasForm (c .args .format) (c .args .w .0)
+form c k h e = by-masks (c .args .w .0) (search needs) k h ∙ sym (ap (λ (n : ℕ). hasForm n (c .args .w .0)) e)
 
 returns : tie.Need-returns
 returns c = c .fixed .ensures ∙ form (c .before .before) 0 (omega arith) (c .before .match .keys1)
@@ -46,7 +46,7 @@ returns-8 c =
     c .if2 .left ∙ rw (← c .before .fixed7 .ensures, c .if2 .left) at (form (k .before) 5 (omega arith) (k .match .keys6))
 
 returns-9 : tie.Need-returns-9
-returns-9 c = sym (no-format (c .before .args .w) (c .before .args .format) (omega (arith, c .match .rest)))
+returns-9 c = sym (no-format (c .before .args .w .0) (c .before .args .format) (omega (arith, c .match .rest)))
 
 pub of-form-spec : {M : Type 1} → statement M
 of-form-spec =

@@ -1,0 +1,2 @@
+-- Which words are instructions of a displacement format.
+pub mod Form
