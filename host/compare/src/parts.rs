@@ -137,7 +137,10 @@ fn check_base(format: u32, base: u32, tally: &mut Tally) {
     }
     if answer.map_err(number) != document.map(|_| WordPos(2)) || run != expected {
         return tally.fails(|| {
-            format!("base {base:08x} at format {format}: {answer:?} {run:x?}, document 01 {document:x?}")
+            let document = document.map(|word| format!("{word:08x}"));
+            format!(
+                "base {base:08x} at format {format}: {answer:?} {run:x?}, document 01 {document:?}"
+            )
         });
     }
     match document {
