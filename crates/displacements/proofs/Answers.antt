@@ -118,7 +118,7 @@ module _ (n b : ℕ) (d : ℤ) where
       go false true false false false eu ev ex ey ez = word (record { at = known eu; form = ev }) (none ex) (none ey) (in-range (formOf n) d ez)
 
   -- a format there is
-  pub at-known : n < 6 → dispSaid n b d ≡ cond (not (hasForm n b)) (no 11) (placeSaid (formOf n) b d)
+  at-known : n < 6 → dispSaid n b d ≡ cond (not (hasForm n b)) (no 11) (placeSaid (formOf n) b d)
   at-known h = simp (le-ltb 5 n (omega arith))
 
   not-formed : (Formed n b → ⊥) → hasForm n b ≡ false
