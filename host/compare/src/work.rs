@@ -32,10 +32,10 @@ pub fn run(part: &Part, threads: usize) -> (Tally, f64) {
         let workers: Vec<_> =
             (0..threads).map(|_| scope.spawn(|| take(part, &next, &total))).collect();
         scope.spawn(|| show(part, &next, &over, began));
-        for worker in workers {
-            worker.join().expect("a comparison panicked");
-        }
+        let ended: Vec<_> = workers.into_iter().map(|worker| worker.join()).collect();
+        // Also where one panicked: else the progress would be shown for ever.
         over.store(true, Ordering::Relaxed);
+        ended.into_iter().for_each(|end| end.expect("a comparison panicked"));
     });
     (total.into_inner().expect("no thread has failed"), began.elapsed().as_secs_f64())
 }
