@@ -6,20 +6,22 @@ use mathlib.Core.List.{List, [], _∷_}
 use Prim.Native.Nat.{ℕ, _+_, _-_, _*_, _/_, _%_, _^_, _<_, _≤_}
 use native.Mathlib.Nat.{mod-lt}
 use native.Mathlib.Omega.{arith}
-use borrow.Author.Tests.{eqb-true}
+use borrow.Author.Tests.{eqb-true, ltb-true, ltb-false}
 use lib.Bits.{bitAnd, and-mask, and-high, and-block, and-zero-r}
-use lib.Dec.{T, eqb}
+use lib.Dec.{T, eqb, ltb}
 use lib.ListN.{getD, List·getD-eq-default}
 use lib.Pow.{pow-pos, split, mod-mod-pow}
 use Rattle.arm.specs.Bits.{bits}
 use Rattle.arm.specs.FixedBits.{isB, isBcond, isCBZ, isTBZ, isADR, isADRP, isLDR}
 use Rattle.words.proofs.Fields.{part, part-part}
 use Rattle.words.proofs.Table.{below, below-at}
+use Rattle.forms.specs.declared.Fixed.{Fixed}
 use Rattle.forms.specs.Form.{hasForm, Formed}
+use Rattle.forms.specs.Private.{none, fixeds, fixedOf}
 use Rattle.forms.proofs.Formats.{each}
 
 -- from 6 on there is no format
-pub no-format : (w n : ℕ) → 6 ≤ n → hasForm n w ≡ false
+no-format : (w n : ℕ) → 6 ≤ n → hasForm n w ≡ false
 unfolding hasForm
 no-format w n h = List·getD-eq-default (isB w ∷ (isBcond w || isCBZ w) ∷ isTBZ w ∷ isADR w ∷ isADRP w ∷ isLDR w ∷ []) false {n = n} h
 
@@ -69,30 +71,22 @@ key-and w h l =
 
 -- ---- the masks
 
--- the code's tests
-abbrev pub masked : ℕ → ℕ → Bool
-masked n w =
-    getD
-    (eqb (bitAnd w 0x7C000000) 0x14000000
-    ∷ (eqb (bitAnd w 0xFF000010) 0x54000000 || eqb (bitAnd w 0x7E000000) 0x34000000)
-    ∷ eqb (bitAnd w 0x7E000000) 0x36000000
-    ∷ eqb (bitAnd w 0x9F000000) 0x10000000
-    ∷ eqb (bitAnd w 0x9F000000) 0x90000000
-    ∷ (eqb (bitAnd w 0x3B000000) 0x18000000 && not (eqb (bitAnd w 0xFF000000) 0xDC000000))
-    ∷ [])
-    n false
+-- the code's test
+abbrev pub masked : Fixed → ℕ → Bool
+masked f w = not (eqb (bitAnd w 0xFF000000) 0xDC000000) && (eqb (bitAnd w (f .mask)) (f .bits) || eqb (bitAnd w (f .mask2)) (f .bits2))
 
-key-masked : (w : ℕ) → w < 2 ^ 32 → (n : ℕ) → n < 6 → masked n w ≡ masked n (key w)
+key-masked : (w : ℕ) → w < 2 ^ 32 → (n : ℕ) → n < 6 → masked (fixedOf n) w ≡ masked (fixedOf n) (key w)
 key-masked w l =
     let again : key (key w) ≡ key w = omega arith in
     let both : bitAnd w 0xFF000010 ≡ bitAnd (key w) 0xFF000010 = both-and w ∙ sym (both-and (key w) ∙ again) in
-    each (λ n. masked n w ≡ masked n (key w))
-    (rw (key-and w 0x7C l))
-    (rw (both, key-and w 0x7E l))
-    (rw (key-and w 0x7E l))
-    (rw (key-and w 0x9F l))
-    (rw (key-and w 0x9F l))
-    (rw (key-and w 0x3B l, key-and w 0xFF l))
+    let dc = key-and w 0xFF l in
+    each (λ n. masked (fixedOf n) w ≡ masked (fixedOf n) (key w))
+    (rw (dc, key-and w 0x7C l))
+    (rw (dc, both, key-and w 0x7E l))
+    (rw (dc, key-and w 0x7E l))
+    (rw (dc, key-and w 0x9F l))
+    (rw (dc, key-and w 0x9F l))
+    (rw (dc, key-and w 0x3B l))
 
 -- ---- a rule of all keys, at the six formats: one computed test
 
@@ -118,13 +112,29 @@ agree f g r w n h =
     same-is (f n (key w)) (g n (key w))
     (below-at (at t x) 6 (below-at (λ x. below (at t x) 6) 2 (below-at (λ t. below (λ x. below (at t x) 6) 2) 256 r t (omega arith)) x (omega arith)) n h)
 
-masks-right : Agree hasForm masked
+masks-right : Agree hasForm (λ n w. masked (fixedOf n) w)
 unfolding hasForm
 masks-right = tt
 
+-- under no mask
+no-mask : (w : ℕ) → masked none w ≡ false
+no-mask w = rw (and-zero-r w) (go (eqb (bitAnd w 0xFF000000) 0xDC000000))
+  where
+    go : (b : Bool) → (not b && (eqb 0 1 || eqb 0 1)) ≡ false
+    go true = refl
+    go false = refl
+
 -- the masks test the fixed bits
-pub by-masks : (w : ℕ) → w < 2 ^ 32 → (n : ℕ) → n < 6 → masked n w ≡ hasForm n w
-by-masks w l n h = key-masked w l n h ∙ sym (agree hasForm masked masks-right w n h) ∙ key-form w n h
+pub by-masks : (w : ℕ) → w < 2 ^ 32 → (n : ℕ) → masked (fixedOf n) w ≡ hasForm n w
+by-masks w l n = go (ltb n 6) refl
+  where
+    go : (b : Bool) → ltb n 6 ≡ b → masked (fixedOf n) w ≡ hasForm n w
+    go true e =
+        let h = ltb-true n 6 e in
+        key-masked w l n h ∙ sym (agree hasForm (λ n w. masked (fixedOf n) w) masks-right w n h) ∙ key-form w n h
+    go false e =
+        let h = ltb-false n 6 e in
+        ap (λ (f : Fixed). masked f w) (List·getD-eq-default fixeds none {n = n} h) ∙ no-mask w ∙ sym (no-format w n h)
 
 -- the first format whose fixed bits a word has, or 6
 abbrev first : ℕ → ℕ

@@ -1,2 +1,3 @@
 -- Which words are instructions of a displacement format.
 pub mod Form
+pub mod Private
