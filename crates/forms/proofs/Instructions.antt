@@ -1,6 +1,6 @@
 -- The fixed bits of a format's instructions: told by the top byte and bit 4 of a word, as the code's masks test them, and those of one format only.
 -- Assumes nothing.
-use mathlib.Core.Path.{_≡_, refl, sym, ap, _∙_}
+use mathlib.Core.Path.{_≡_, refl, sym, ap, subst, _∙_}
 use mathlib.Core.Bool.{Bool, true, false, cond, not, _&&_, _||_}
 use mathlib.Core.List.{List, [], _∷_}
 use Prim.Native.Nat.{ℕ, _+_, _-_, _*_, _/_, _%_, _^_, _<_, _≤_}
@@ -100,21 +100,21 @@ same-is true false t = absurd t
 same-is false true t = absurd t
 same-is false false t = refl
 
--- f and g are the same at each of the six formats and at the key of each top byte t and bit x
-abbrev Agree : (ℕ → ℕ → Bool) → (ℕ → ℕ → Bool) → Type 0
-Agree f g = T (below (λ t. below (λ x. below (λ n. same (f n (t * 2 ^ 24 + x * 2 ^ 4)) (g n (t * 2 ^ 24 + x * 2 ^ 4))) 6) 2) 256)
+-- whether f and g are the same at each of the six formats and at the key of each top byte t and bit x
+abbrev test : (ℕ → ℕ → Bool) → (ℕ → ℕ → Bool) → Bool
+test f g = below (λ t. below (λ x. below (λ n. same (f n (t * 2 ^ 24 + x * 2 ^ 4)) (g n (t * 2 ^ 24 + x * 2 ^ 4))) 6) 2) 256
 
-agree : (f g : ℕ → ℕ → Bool) → Agree f g → (w n : ℕ) → n < 6 → f n (key w) ≡ g n (key w)
+agree : (f g : ℕ → ℕ → Bool) → test f g ≡ true → (w n : ℕ) → n < 6 → f n (key w) ≡ g n (key w)
 agree f g r w n h =
     let at : ℕ → ℕ → ℕ → Bool = λ t x n. same (f n (t * 2 ^ 24 + x * 2 ^ 4)) (g n (t * 2 ^ 24 + x * 2 ^ 4)) in
     let t = bits 31 24 w in
     let x = bits 4 4 w in
     same-is (f n (key w)) (g n (key w))
-    (below-at (at t x) 6 (below-at (λ x. below (at t x) 6) 2 (below-at (λ t. below (λ x. below (at t x) 6) 2) 256 r t (omega arith)) x (omega arith)) n h)
+    (below-at (at t x) 6 (below-at (λ x. below (at t x) 6) 2 (below-at (λ t. below (λ x. below (at t x) 6) 2) 256 (subst T (sym r) tt) t (omega arith)) x (omega arith)) n h)
 
-masks-right : Agree hasForm (λ n w. masked (fixedOf n) w)
+masks-right : test hasForm (λ n w. masked (fixedOf n) w) ≡ true
 unfolding hasForm
-masks-right = tt
+masks-right = refl
 
 -- under no mask
 no-mask : (w : ℕ) → masked none w ≡ false
@@ -140,9 +140,9 @@ by-masks w l n = go (ltb n 6) refl
 abbrev first : ℕ → ℕ
 first w = cond (hasForm 0 w) 0 (cond (hasForm 1 w) 1 (cond (hasForm 2 w) 2 (cond (hasForm 3 w) 3 (cond (hasForm 4 w) 4 (cond (hasForm 5 w) 5 6)))))
 
-only-first : Agree hasForm (λ n w. eqb (first w) n)
+only-first : test hasForm (λ n w. eqb (first w) n) ≡ true
 unfolding hasForm
-only-first = tt
+only-first = refl
 
 -- a word has the fixed bits of one format at most
 pub one-form : (w m n : ℕ) → m < 6 → n < 6 → Formed m w → Formed n w → m ≡ n
