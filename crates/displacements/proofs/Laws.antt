@@ -1,7 +1,7 @@
 -- The table's rule, and the field of a word at a format: what is put is read, and the rest is kept. Assumes nothing.
 use mathlib.Core.Path.{_≡_, ap, _∙_}
 use mathlib.Core.Logic.{_⊎_, ⊎-elim}
-use Prim.Native.Nat.{ℕ, zero, suc, _+_, _-_, _*_, _/_, _%_, _^_, _<_, _≤_, min}
+use Prim.Native.Nat.{ℕ, _+_, _-_, _*_, _/_, _%_, _^_, _<_, _≤_, min}
 use native.Mathlib.Nat.{mod-lt, lt-of-lt-of-le, mul-pos, eq-zero-or-pos, mod-one, mul-one, add-zero}
 use native.Mathlib.Omega.{arith}
 use borrow.Author.Needs.{needs}

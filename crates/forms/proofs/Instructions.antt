@@ -2,14 +2,14 @@
 -- Assumes nothing.
 use mathlib.Core.Path.{_≡_, refl, sym, ap, subst, _∙_}
 use mathlib.Core.Bool.{Bool, true, false, cond, not, _&&_, _||_}
-use mathlib.Core.List.{List, [], _∷_}
+use mathlib.Core.List.{[], _∷_}
 use Prim.Native.Nat.{ℕ, _+_, _-_, _*_, _/_, _%_, _^_, _<_, _≤_}
 use native.Mathlib.Nat.{mod-lt}
 use native.Mathlib.Omega.{arith}
 use borrow.Author.Tests.{eqb-true, ltb-true, ltb-false}
 use lib.Bits.{bitAnd, and-mask, and-high, and-block, and-zero-r}
 use lib.Dec.{T, eqb, ltb}
-use lib.ListN.{getD, List·getD-eq-default}
+use lib.ListN.{List·getD-eq-default}
 use lib.Pow.{pow-pos, split, mod-mod-pow}
 use Rattle.arm.specs.Bits.{bits}
 use Rattle.arm.specs.FixedBits.{isB, isBcond, isCBZ, isTBZ, isADR, isADRP, isLDR}

@@ -1,6 +1,5 @@
 -- `host::yes` meets its contract. Assumes nothing.
 use mathlib.Core.Path.{refl}
-use borrow.Author.Needs.{needs}
 use Rattle.host.proofs.yes.Statement.{statement}
 use Rattle.host.proofs.yes.Tie as tie
 
