@@ -10,7 +10,7 @@ use Rattle.arm.specs.Bits.{Replicate}
 use Rattle.arm.specs.BitMasks.{highestSetBit, len, esize, Legal, wmask}
 use Rattle.arm.specs.LogicalImmediate.{LogicalOp, AND, ORR, EOR, ANDS, Logical, defined, decodeLogical}
 use Rattle.arm.specs.MoveWide.{decode, Regs, exec, run}
-use Rattle.arm.specs.Displacements.{B, Bcond, TBZ, ADR, ADRP, LDR}
+use Rattle.arm.specs.Displacements.{B, Bcond, TBZ, ADR, ADRP, pageADRP, LDR}
 use Rattle.arm.specs.FixedBits.{isB, isBcond, isCBZ, isTBZ, isADR, isADRP, isLDR}
 use Rattle.arm.specs.Immediates.{VFPExpandImm, byteMasks, ByteMask}
 use Rattle.arm.proofs.Worked.{Worked}
@@ -135,6 +135,11 @@ pub displacements :
     ∷ (ADR 0x707FFFE2, 1048575)  -- adr x2, .+1048575
     ∷ (ADRP 0xB0000000, 4096)  -- adrp x0, the next page
     ∷ (ADRP 0x90800000, 2 ^ 64 - 4294967296)  -- the least page
+    ∷ (pageADRP 0x1FFC 0xD0000000, 0x3000)  -- at 1FFC objdump reads adrp x0, 0x3000; and so below
+    ∷ (pageADRP 0x1FF8 0xF0FFFFE1, 0)
+    ∷ (pageADRP 0x1000 0xF07FFFE2, 0x100000000)
+    ∷ (pageADRP 0x200000FFC 0x90800000, 0x100000000)
+    ∷ (pageADRP 0xFFFFFFFFFFFFFFFC 0xB0000000, 0)  -- over the end of the addresses
     ∷ (LDR 0x58000040, 8)  -- ldr x0, .+8
     ∷ (LDR 0x18800005, 2 ^ 64 - 1048576)  -- ldr w5, .-1048576
     ∷ [])

@@ -1,6 +1,6 @@
 -- The 64-bit offsets that A64 instructions take from their immediate fields: the decode lines of each. An offset is 64 bits, as a number; read
 -- as signed it is a distance in bytes from the instruction, for ADRP from its page. Assumes nothing.
-use Prim.Native.Nat.{ℕ}
+use Prim.Native.Nat.{ℕ, _+_, _%_, _^_}
 use Rattle.arm.specs.Bits.{bits, join, SignExtend}
 
 -- B, BL: SignExtend(imm26 : '00', 64)
@@ -22,6 +22,10 @@ ADR w = SignExtend 21 (join 2 (bits 23 5 w) (bits 30 29 w))
 -- ADRP: SignExtend(immhi : immlo : Zeros(12), 64)
 abbrev pub ADRP : ℕ → ℕ
 ADRP w = SignExtend 33 (join 12 (join 2 (bits 23 5 w) (bits 30 29 w)) 0)
+
+-- what ADRP leaves in its register, executed at the address pc: base = PC, base<11:0> = Zeros(12), base + imm
+abbrev pub pageADRP : (pc w : ℕ) → ℕ
+pageADRP pc w = (join 12 (bits 63 12 pc) 0 + ADRP w) % 2 ^ 64
 
 -- LDR (literal): SignExtend(imm19 : '00', 64)
 abbrev pub LDR : ℕ → ℕ

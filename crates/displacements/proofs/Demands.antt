@@ -6,7 +6,7 @@ use mathlib.Core.List.{List, [], _∷_}
 use Prim.Native.Nat.{ℕ, _+_, _-_, _*_, _/_, _%_, _^_, _<_, _≤_}
 use native.Mathlib.Nat.{mod-lt, mul-pos, eq-zero-or-pos, zero-mod, zero-div, zero-mul, add-zero, lt-of-lt-of-le}
 use native.Mathlib.Omega.{arith}
-use borrow.Author.Tests.{lt-ltb, le-ltb, ltb-true, ltb-false}
+use borrow.Author.Tests.{lt-ltb, le-ltb, ltb-true, ltb-false, ne-eqb}
 use lib.Dec.{eqb, ltb, leb→le}
 use lib.IntN.{ℤ, pos, negsuc, negℤ}
 use lib.ListN.{length, getD}
@@ -15,7 +15,7 @@ use lib.Seq.{getD-set-same, getD-set-other}
 use lib.Signed.{mag}
 use mir.Syntax.{w64}
 use mir.Val.{SFits, ofZ}
-use mir.Facts.{toZ-ofZ, ofZ-toZ, sfits-toZ}
+use mir.Facts.{toZ-ofZ, ofZ-toZ}
 use Rattle.arm.specs.FixedBits.{isBcond, isCBZ}
 use Rattle.arm.proofs.SignExtends.{extend, extended}
 use Rattle.words.specs.Said.{Said, ok, no}
@@ -27,11 +27,11 @@ use Rattle.forms.proofs.Instructions.{one-form}
 use Rattle.writers.proofs.Writes.{put-full, put-fits, put-done}
 use Rattle.displacements.specs.declared.Form.{Form}
 use Rattle.displacements.specs.Forms.{forms, formOf, fieldIn, putIn, step, reach, least, greatest}
-use Rattle.displacements.specs.Answer.{stepsOf, placeSaid, dispSaid, originOf, between, targetSaid, offset, readSaid}
+use Rattle.displacements.specs.Answer.{stepsOf, placeSaid, dispSaid, pageOf, between, targetSaid, offset, readSaid}
 use Rattle.displacements.specs.Private.{Sound, offsetIn}
 use Rattle.displacements.specs.Says.{Says, unknown, alien, taken, off, far, word, Based, Free, OnStep, InRange}
 use Rattle.displacements.proofs.Laws.{sound, arm-reads, Outside, put-there, put-kept, rest-free, lows-free}
-use Rattle.displacements.proofs.Distances.{steps-bits, bits-steps, steps-back}
+use Rattle.displacements.proofs.Distances.{steps-bits, steps-back}
 use Rattle.displacements.proofs.Answers.{says, answers}
 use Rattle.displacements.proofs.Kept.{forms-kept, conds-kept}
 
@@ -220,39 +220,40 @@ module _ (n b : ℕ) (d : ℤ) (w : ℕ) (e : dispSaid n b d ≡ ok (w ∷ [])) 
 
 -- ---- the target entry
 
--- it is the distance entry at the distance of the two addresses
-pub target-is-distance : (n b t a : ℕ) → targetSaid n b t a ≡ dispSaid n b (between t (originOf n a))
+-- it is the distance entry at the distance of the two, for ADRP of their pages
+pub target-is-distance : (n b t a : ℕ) → targetSaid n b t a ≡ dispSaid n b (between (pageOf n t) (pageOf n a))
 target-is-distance n b t a = refl
 
-bits-between : (t o : ℕ) → ofZ w64 (between t o) ≡ (t + (2 ^ 64 - o)) % 2 ^ 64
+-- at format 4 the page, the address less its low 12 bits
+pub page-is : (a : ℕ) → pageOf 4 a ≡ a / 4096 * 4096
+page-is a = omega arith
+
+-- elsewhere the address
+pub page-other : (n a : ℕ) → (n ≡ 4 → ⊥) → pageOf n a ≡ a
+page-other n a h = simp (ne-eqb n 4 h)
+
+pub elsewhere : (n b t a : ℕ) → (n ≡ 4 → ⊥) → targetSaid n b t a ≡ dispSaid n b (between t a)
+elsewhere n b t a h = rw (page-other n t h, page-other n a h)
+
+-- as 64 bits
+pub bits-between : (t o : ℕ) → ofZ w64 (between t o) ≡ (t + (2 ^ 64 - o)) % 2 ^ 64
 bits-between t o = ofZ-toZ {w = w64} (record { fits = mod-lt (t + (2 ^ 64 - o)) (pow-pos 64) })
 
--- at format 4 the page, the address less its low 12 bits; elsewhere the address
-pub origin-page : (a : ℕ) → originOf 4 a ≡ a / 4096 * 4096
-origin-page a = omega arith
-
-origin-le : (n a : ℕ) → originOf n a ≤ a
-origin-le n a = go (eqb n 4)
+page-le : (n a : ℕ) → pageOf n a ≤ a
+page-le n a = go (eqb n 4)
   where
     go : (x : Bool) → cond x (a - a % 4096) a ≤ a
     go true = omega arith
     go false = omega arith
 
--- by Arm's reading the instruction arrives at the target
-pub arrives : (n b t a w : ℕ) → t < 2 ^ 64 → a < 2 ^ 64 → targetSaid n b t a ≡ ok (w ∷ []) → (originOf n a + offset n w) % 2 ^ 64 ≡ t
-arrives n b t a w ht ha e = rw (arm-reads-back n b (between t (originOf n a)) w e, bits-between t (originOf n a)) (back t (originOf n a) ht (origin-le n a))
+-- by Arm's reading the instruction arrives at the target, an ADRP at its page
+pub arrives : (n b t a w : ℕ) → t < 2 ^ 64 → a < 2 ^ 64 → targetSaid n b t a ≡ ok (w ∷ []) → (pageOf n a + offset n w) % 2 ^ 64 ≡ pageOf n t
+arrives n b t a w ht ha e =
+    rw (arm-reads-back n b (between (pageOf n t) (pageOf n a)) w e, bits-between (pageOf n t) (pageOf n a))
+    (back (pageOf n t) (pageOf n a) (omega (arith, page-le n t)) (omega (arith, page-le n a)))
   where
-    back : (t o : ℕ) → t < 2 ^ 64 → o ≤ a → (o + (t + (2 ^ 64 - o)) % 2 ^ 64) % 2 ^ 64 ≡ t
+    back : (t o : ℕ) → t < 2 ^ 64 → o < 2 ^ 64 → (o + (t + (2 ^ 64 - o)) % 2 ^ 64) % 2 ^ 64 ≡ t
     back t o h k = omega arith
-
--- "the target must be on a page": at format 4 the distance is on the step exactly if it is
-pub on-page : (t a : ℕ) → t < 2 ^ 64 → a < 2 ^ 64 → OnStep (formOf 4) (between t (originOf 4 a)) ↔ (t % 4096 ≡ 0)
-on-page t a ht ha =
-    let o = originOf 4 a in
-    let d = between t o in
-    let low : (t + (2 ^ 64 - o)) % 2 ^ 64 % 2 ^ 12 ≡ t % 4096 = omega arith in
-    let same : ofZ w64 d % 2 ^ 12 ≡ t % 4096 = rw (bits-between t o) low in
-    (λ on. sym same ∙ steps-bits 12 (omega arith) d on, λ e. bits-steps 12 (omega arith) d (sfits-toZ {w = w64} (record { fits = mod-lt (t + (2 ^ 64 - o)) (pow-pos 64) })) (same ∙ e))
 
 -- ---- the entries that write: 8 last, and what stands at the position reads back
 
@@ -304,5 +305,5 @@ module _ (ws : List ℕ) (at n b : ℕ) (d : ℤ) (p : ℕ) (ws′ : List ℕ) (
   emit-reads-back = let w = getD ws′ at 0 in (arm-reads-back n b d w (emitted .there), read-back n b d w (emitted .there))
 
 pub emit-arrives : (ws : List ℕ) (at n b t a p : ℕ) (ws′ : List ℕ) → t < 2 ^ 64 → a < 2 ^ 64
-    → (ok p, ws′) ≡ putOf ws at (targetSaid n b t a) → (originOf n a + offset n (getD ws′ at 0)) % 2 ^ 64 ≡ t
-emit-arrives ws at n b t a p ws′ ht ha e = arrives n b t a (getD ws′ at 0) ht ha (emitted ws at n b (between t (originOf n a)) p ws′ e .there)
+    → (ok p, ws′) ≡ putOf ws at (targetSaid n b t a) → (pageOf n a + offset n (getD ws′ at 0)) % 2 ^ 64 ≡ pageOf n t
+emit-arrives ws at n b t a p ws′ ht ha e = arrives n b t a (getD ws′ at 0) ht ha (emitted ws at n b (between (pageOf n t) (pageOf n a)) p ws′ e .there)

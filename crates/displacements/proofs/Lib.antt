@@ -2,7 +2,9 @@
 pub mod Laws
 pub mod Distances
 pub mod Answers
+pub mod Targets
 pub mod Kept
 pub mod Demands
+pub mod Pages
 pub mod Determined
 pub mod Examples

@@ -4,14 +4,16 @@ use words::Opc;
 use words::Refusal;
 use words::WordPos;
 use words::Worded;
+use words::Words;
 use words::Written;
 ghost use mathlib.Core.Path.{_≡_};
-ghost use Prim.Native.Nat.{_^_, _<_};
+ghost use mathlib.Core.Option.{some, none};
+ghost use Prim.Native.Nat.{_%_, _^_, _<_};
 ghost use Rattle.words.specs.Answer.{said, made};
 ghost use Rattle.words.specs.Listed.{packed};
 ghost use Rattle.writers.specs.Put.{putOf};
 ghost use Rattle.displacements.specs.Forms.{formOf, fieldIn, putIn};
-ghost use Rattle.displacements.specs.Answer.{placeSaid, dispSaid, originOf, between, targetSaid, readSaid, distanceSaid};
+ghost use Rattle.displacements.specs.Answer.{placeSaid, dispSaid, pageOf, between, targetSaid, lowOf, carrying, carried, wordSaid, writtenSaid, readSaid, distanceSaid};
 ghost use Rattle.displacements.specs.Private.{offsetIn, Sound};
 
 // A format: distances in steps of 2 ^ scale bytes, in a field of `bits` bits, of which the low ones, `low` in number, stand at bit 29 of the
@@ -21,6 +23,23 @@ struct Form {
     bits: u32,
     low: u32,
     at: u32,
+}
+
+// The low 12 bits of an address: where it lies in its page.
+pub struct Low12(pub u32);
+
+// What the target entry makes by value: the word, and for an ADRP the target's low bits too, for the ADD that follows.
+pub enum TargetWord {
+    Word(Words),
+    PageWord(Words, Low12),
+    NoWord(Refusal),
+}
+
+// What it answers where it writes: the position just past the word, and for an ADRP the target's low bits too.
+pub enum TargetWritten {
+    Wrote(WordPos),
+    WrotePage(WordPos, Low12),
+    NotWritten(Refusal),
 }
 
 // What the reader answers.
@@ -109,9 +128,9 @@ pub fn disp_word(format: u32, base: Opc, distance: ByteDistance) -> Worded
     place(form_of(format), base, distance)
 }
 
-// Where distances are counted from: for ADRP the page of the address.
-fn origin(format: u32, address: u64) -> u64
-    ensures { λ r. ⌜ r ≡ originOf format address ⌝ }
+// An address as distances are taken from it and to it: for ADRP its page.
+fn page(format: u32, address: u64) -> u64
+    ensures { λ r. ⌜ r ≡ pageOf format address ⌝ }
 {
     if format == 4 {
         address - address % 4096
@@ -121,17 +140,34 @@ fn origin(format: u32, address: u64) -> u64
 }
 
 // The target minus the address, modulo 2^64, read as signed.
-fn distance_to(target: u64, address: u64) -> ByteDistance
-    ensures { λ r. ⌜ r .0 ≡ between target address ⌝ }
+fn distance_to(format: u32, target: u64, address: u64) -> ByteDistance
+    ensures { λ r. ⌜ r .0 ≡ between (pageOf format target) (pageOf format address) ⌝ }
 {
-    ByteDistance(words::signed_of(std::num::wrapping_sub_u64(target, address)))
+    let apart = std::num::wrapping_sub_u64(page(format, target), page(format, address));
+    ByteDistance(words::signed_of(apart))
 }
 
-// The same from a target and the address of the instruction: 7, 11, 6, 4, 5.
-pub fn disp_target_word(format: u32, base: Opc, target: u64, address: u64) -> Worded
-    ensures { λ r. ⌜ made r ≡ packed (targetSaid format (base .0) target address) ⌝ }
+fn low_12(target: u64) -> Low12
+    ensures { λ r. ⌜ r .0 ≡ target % 4096 ⌝ }
 {
-    disp_word(format, base, distance_to(target, origin(format, address)))
+    Low12((target % 4096) as u32)
+}
+
+// The same from a target and the address of the instruction: 7, 11, 6, 4, 5. An ADRP never gives 4, and its answer has the target's low bits.
+pub fn disp_target_word(format: u32, base: Opc, target: u64, address: u64) -> TargetWord
+    ensures { λ r. ⌜ wordSaid r ≡ carrying (lowOf format target) (packed (targetSaid format (base .0) target address)) ⌝ }
+{
+    let low = low_12(target);
+    match disp_word(format, base, distance_to(format, target, address)) {
+        Worded::Made(f) => {
+            if format == 4 {
+                TargetWord::PageWord(f, low)
+            } else {
+                TargetWord::Word(f)
+            }
+        }
+        Worded::Not(r) => TargetWord::NoWord(r),
+    }
 }
 
 // The word of a base and a distance at a position: 7, 11, 6, 4, 5, 8.
@@ -147,7 +183,26 @@ pub fn emit_disp_imm(
     writers::put(words, at, disp_word(format, base, distance))
 }
 
-// The same from a target and the address of the instruction: 7, 11, 6, 4, 5, 8.
+// What a writer answers, and the same with low bits.
+fn wrote(w: Written) -> TargetWritten
+    ensures { λ r. ⌜ writtenSaid r ≡ carrying none (said w) ⌝ }
+{
+    match w {
+        Written::Done(p) => TargetWritten::Wrote(p),
+        Written::No(r) => TargetWritten::NotWritten(r),
+    }
+}
+
+fn wrote_page(w: Written, low: Low12) -> TargetWritten
+    ensures { λ r. ⌜ writtenSaid r ≡ carrying (some (low .0)) (said w) ⌝ }
+{
+    match w {
+        Written::Done(p) => TargetWritten::WrotePage(p, low),
+        Written::No(r) => TargetWritten::NotWritten(r),
+    }
+}
+
+// The same from a target and the address of the instruction: 7, 11, 6, 4, 5, 8. An ADRP never gives 4, and its answer has the target's low bits.
 pub fn emit_disp_target(
     words: &mut [u32],
     at: WordPos,
@@ -155,10 +210,14 @@ pub fn emit_disp_target(
     base: Opc,
     target: u64,
     address: u64,
-) -> Written
-    ensures { λ r. ⌜ (said r, now (words .exit)) ≡ putOf (now (words .entry)) (at .0) (targetSaid format (base .0) target address) ⌝ }
+) -> TargetWritten
+    ensures { λ r. ⌜ (writtenSaid r, now (words .exit)) ≡ carried (lowOf format target) (putOf (now (words .entry)) (at .0) (targetSaid format (base .0) target address)) ⌝ }
 {
-    writers::put(words, at, disp_target_word(format, base, target, address))
+    match disp_target_word(format, base, target, address) {
+        TargetWord::Word(w) => wrote(writers::put(words, at, Worded::Made(w))),
+        TargetWord::PageWord(w, low) => wrote_page(writers::put(words, at, Worded::Made(w)), low),
+        TargetWord::NoWord(r) => TargetWritten::NotWritten(r),
+    }
 }
 
 // The field, times the step, with its top bit copied up to bit 63.

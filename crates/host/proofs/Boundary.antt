@@ -3,13 +3,12 @@
 use mathlib.Core.Path.{_≡_, sym, ap, _∙_, subst}
 use mathlib.Core.Bool.{Bool}
 use mathlib.Core.List.{List, [], _∷_}
-use mathlib.Core.Option.{some}
+use mathlib.Core.Option.{Option, some, none}
 use Prim.Native.Nat.{ℕ, _+_, _*_, _^_, _%_, _≤_, _<_}
 use native.Mathlib.Omega.{arith}
 use contract.Lifetimes.{Lfts}
 use denote.Ref.{RefT, now}
-use lib.IntN.{ℤ, pos, natAbs}
-use lib.ListN.{length}
+use lib.IntN.{ℤ, pos}
 use lib.Seq.{slice}
 use Rattle.arm.specs.MoveWide.{Regs, write, run}
 use Rattle.words.specs.Said.{Said, ok, no}
@@ -28,11 +27,13 @@ use Rattle.moves.proofs.Demands.{mov-said}
 use Rattle.patchable_moves.specs.Patchable.{patchSaid}
 use Rattle.patchable_moves.proofs.Demands.{patch-said}
 use Rattle.forms.specs.Form.{formSaid}
-use Rattle.displacements.specs.Answer.{dispSaid, originOf, between, targetSaid, readSaid, offset}
+use Rattle.displacements.specs.Answer.{dispSaid, pageOf, between, targetSaid, lowOf, carrying, readSaid, offset}
 use Rattle.displacements.proofs.Demands.{form-yes, read-back, arrives}
 use Rattle.displacements.proofs.Answers.{alone}
-use Rattle.host.specs.Number.{refusalIn, valueIn, Reads, counted, wordsFrom, wordAt, spelled, yesNo}
-use Rattle.host.proofs.Demands.{Sane, Called, reads, stands, move-sane, patchable-sane, displacement-sane, word-sane, fields-read, form-read, distance-read}
+use Rattle.displacements.proofs.Targets.{low-page}
+use Rattle.displacements.proofs.Pages.{Paged, paged-at}
+use Rattle.host.specs.Number.{refusalIn, valueIn, Reads, lowBits, countedTo, lowIn, wordsFrom, wordAt, spelled, yesNo}
+use Rattle.host.proofs.Demands.{Sane, Low, low-none, target-low, Called, CalledTo, plainly, reads-to, stands-to, move-sane, patchable-sane, displacement-sane, word-sane, fields-read, form-read, distance-read}
 use Rattle.host.proofs.vaimalofo_move.Reads as move
 use Rattle.host.proofs.vaimalofo_patchable_move.Reads as patchable-move
 use Rattle.host.proofs.vaimalofo_logical_fields.Reads as logical-fields
@@ -66,20 +67,26 @@ reads-back word format base distance e k answer p =
 
 -- ---- any call that wrote
 
-module _ (l : List ℕ) (at n : ℕ) (l′ : List ℕ) (x : Said (List ℕ)) (h : Sane x) (e : Called l at n l′ x) where
+module _ (l : List ℕ) (at n : ℕ) (l′ : List ℕ) (x : Said (List ℕ)) (h : Sane x) where
   -- the words asked for are those that a host finds
-  found : refusalIn n ≡ 0 → x ≡ ok (wordsFrom n at l′)
-  found z =
-      let s = stands l at n l′ x h e z in
-      let many : natAbs (valueIn n) ≡ length (s .0) = ap natAbs (s .2 .count) in
-      s .1 ∙ ap ok (sym (ap (λ (k : ℕ). wordsIn (slice (at * 4) ((at + k) * 4) l′)) many ∙ ap wordsIn (s .2 .words) ∙ words-back (s .0)))
+  found-to : (low : Option ℕ) → Low low → CalledTo l at n l′ low x → refusalIn n ≡ 0 → x ≡ ok (wordsFrom n at l′)
+  found-to low f e z =
+      let s = stands-to l at n l′ low x f h e z in
+      s .1 ∙ ap ok (sym (ap (λ (k : ℕ). wordsIn (slice (at * 4) ((at + k) * 4) l′)) (s .2 .count) ∙ ap wordsIn (s .2 .words) ∙ words-back (s .0)))
 
-  -- one word
-  found-one : Alone x → refusalIn n ≡ 0 → x ≡ ok (wordAt n at l′ ∷ [])
-  found-one a z = alone-word x (wordsFrom n at l′) a (found z)
+  refusal-to : (low : Option ℕ) → Low low → CalledTo l at n l′ low x → refusalIn n ≤ lastNumber
+  refusal-to low f e = in-range n (countedTo at (carrying low (putBytesOf l at x .0))) (reads-to l at n l′ low x f h e)
 
-  refusal : refusalIn n ≤ lastNumber
-  refusal = in-range n (counted at (putBytesOf l at x .0)) (reads l at n l′ x h e)
+  module _ (e : Called l at n l′ x) where
+    found : refusalIn n ≡ 0 → x ≡ ok (wordsFrom n at l′)
+    found = found-to none low-none (plainly l at n l′ x e)
+
+    -- one word
+    found-one : Alone x → refusalIn n ≡ 0 → x ≡ ok (wordAt n at l′ ∷ [])
+    found-one a z = alone-word x (wordsFrom n at l′) a (found z)
+
+    refusal : refusalIn n ≤ lastNumber
+    refusal = refusal-to none low-none (plainly l at n l′ x e)
 
 module _ (k : Lfts 1) (bytes bytes′ : RefT (List ℕ)) (position answer : ℕ) where
   abbrev l : List ℕ
@@ -145,10 +152,15 @@ module _ (k : Lfts 1) (bytes bytes′ : RefT (List ℕ)) (position answer : ℕ)
   module _ (format base target address : ℕ)
       (p : displacement-to.Post k (bytes, (position, (format, (base, (target, (address, tt)))))) answer (bytes′, (position, (format, (base, (target, (address, tt))))))) where
     abbrev apart : ℤ
-    apart = between target (originOf format address)
+    apart = between (pageOf format target) (pageOf format address)
+
+    abbrev low : Option ℕ
+    low = lowOf format target
 
     there : refusalIn answer ≡ 0 → targetSaid format base target address ≡ ok (wordAt answer position l′ ∷ [])
-    there z = found-one l position answer l′ (dispSaid format base apart) (displacement-sane format base apart) p (alone format base apart) z
+    there z =
+        alone-word (dispSaid format base apart) (wordsFrom answer position l′) (alone format base apart)
+        (found-to l position answer l′ (dispSaid format base apart) (displacement-sane format base apart) low (target-low format target) p z)
 
     pub displacement-to-read : refusalIn answer ≡ 0 → Read (wordAt answer position l′) format apart
     displacement-to-read z = reads-back (wordAt answer position l′) format base apart (there z)
@@ -156,13 +168,24 @@ module _ (k : Lfts 1) (bytes bytes′ : RefT (List ℕ)) (position answer : ℕ)
     pub displacement-to-formed : refusalIn answer ≡ 0 → Instruction (wordAt answer position l′) format
     displacement-to-formed z = formed (wordAt answer position l′) format base apart (there z)
 
-    -- and by Arm's reading the instruction arrives at the target
+    -- and by Arm's reading the instruction arrives at the target, an ADRP at its page
     pub displacement-to-arrives : refusalIn answer ≡ 0 → target < 2 ^ 64 → address < 2 ^ 64
-        → (originOf format address + offset format (wordAt answer position l′)) % 2 ^ 64 ≡ target
+        → (pageOf format address + offset format (wordAt answer position l′)) % 2 ^ 64 ≡ pageOf format target
     displacement-to-arrives z ht ha = arrives format base target address (wordAt answer position l′) ht ha (there z)
 
+    -- the low bits in the answer: the target's at format 4, and 0 elsewhere
+    pub displacement-to-low : refusalIn answer ≡ 0 → lowIn answer ≡ lowBits low
+    displacement-to-low z =
+        stands-to l position answer l′ low (dispSaid format base apart) (target-low format target) (displacement-sane format base apart) p z .2 .bits
+
+    -- with them the page that Arm computes from the ADRP is the target
+    pub displacement-to-paged : refusalIn answer ≡ 0 → format ≡ 4 → target < 2 ^ 64 → address < 2 ^ 64 → Paged target address (wordAt answer position l′) (lowIn answer)
+    displacement-to-paged z four ht ha =
+        let bits : lowIn answer ≡ target % 4096 = displacement-to-low z ∙ ap lowBits (low-page format target four) in
+        paged-at format base target address ht ha (wordAt answer position l′) (lowIn answer) four bits (there z)
+
     pub displacement-to-refusal : refusalIn answer ≤ lastNumber
-    displacement-to-refusal = refusal l position answer l′ (dispSaid format base apart) (displacement-sane format base apart) p
+    displacement-to-refusal = refusal-to l position answer l′ (dispSaid format base apart) (displacement-sane format base apart) low (target-low format target) p
 
 -- ---- those that write nothing
 

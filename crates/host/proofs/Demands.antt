@@ -3,14 +3,15 @@ use mathlib.Core.Path.{_≡_, refl, sym, ap, subst⁻¹, _∙_}
 use mathlib.Core.Logic.{_⊎_, ⊎-elim}
 use mathlib.Core.Bool.{Bool, true, false, cond, not, _||_}
 use mathlib.Core.List.{List}
-use Prim.Native.Nat.{ℕ, _+_, _-_, _*_, _/_, _^_, _≤_, _<_}
-use native.Mathlib.Nat.{lt-of-lt-of-le}
+use mathlib.Core.Option.{Option, some, none}
+use Prim.Native.Nat.{ℕ, _+_, _-_, _*_, _/_, _%_, _^_, _≤_, _<_}
+use native.Mathlib.Nat.{mod-lt, lt-of-lt-of-le}
 use native.Mathlib.Omega.{arith}
 use borrow.Author.Tests.{ltb-false}
 use lib.Dec.{leb, ltb, eqb}
-use lib.IntN.{ℤ, pos}
+use lib.IntN.{ℤ}
 use lib.ListN.{length, getD}
-use lib.Pow.{pow-mono}
+use lib.Pow.{pow-mono, pow-pos}
 use lib.Seq.{sets, slice}
 use lib.Signed.{mag}
 use mir.Syntax.{w64}
@@ -29,12 +30,13 @@ use Rattle.logical.specs.declared.LogicalImm.{LogicalImm}
 use Rattle.logical_words.specs.Word.{baseOf, filled, wordOf}
 use Rattle.forms.specs.Form.{hasForm, formSaid}
 use Rattle.forms.proofs.Formats.{each}
-use Rattle.displacements.specs.Answer.{dispSaid, readSaid, offset}
+use Rattle.displacements.specs.Answer.{dispSaid, lowOf, carrying, carried, readSaid, offset}
 use Rattle.displacements.specs.Forms.{formOf, fieldIn, step}
 use Rattle.displacements.proofs.Answers.{alone, numbered}
 use Rattle.displacements.proofs.Laws.{sound, arm-reads, offset-lt}
-use Rattle.host.specs.Number.{told, refusalIn, valueIn, Reads, counted, hostOf, spelled, yesNo}
-use Rattle.host.proofs.Reading.{Small, told-reads, extended-mag}
+use Rattle.host.specs.Number.{told, refusalIn, Reads, counted, hostOf, lowBits, countedTo, hostToOf, countIn, lowIn, spelled, yesNo}
+use Rattle.host.proofs.Laws.{counted-none, hosted-none}
+use Rattle.host.proofs.Reading.{Small, told-reads, told-parts, extended-mag}
 
 -- ---- all that write
 
@@ -43,65 +45,98 @@ abbrev pub Sane : Said (List ℕ) → Type 0
 Sane (ok ws) = length ws ≤ 4
 Sane (no n) = IsNumber n
 
-put-small : (l : List ℕ) (at : ℕ) (x : Said (List ℕ)) → Sane x → Small (counted at (putBytesOf l at x .0))
-unfolding putBytesOf
-put-small l at (ok vs) h = go (leb (at + length vs) (length l / 4))
+-- low bits are 12 at most
+abbrev pub Low : Option ℕ → Type 0
+Low low = lowBits low < 4096
+
+pub low-none : Low none
+low-none = omega arith
+
+pub target-low : (n t : ℕ) → Low (lowOf n t)
+target-low n t = go (eqb n 4)
   where
-    go : (b : Bool) → Small (counted at (cond {A = Said ℕ × List ℕ} b (ok (at + length vs), sets l (at * 4) (allBytes vs)) (no 8, l) .0))
+    go : (b : Bool) → Low (cond b (some (t % 4096)) none)
+    go true = mod-lt t (pow-pos 12)
+    go false = omega arith
+
+put-small : (l : List ℕ) (at : ℕ) (low : Option ℕ) (x : Said (List ℕ)) → Low low → Sane x → Small (countedTo at (carrying low (putBytesOf l at x .0)))
+unfolding putBytesOf
+put-small l at low (ok vs) f h = go (leb (at + length vs) (length l / 4))
+  where
+    go : (b : Bool) → Small (countedTo at (carrying low (cond {A = Said ℕ × List ℕ} b (ok (at + length vs), sets l (at * 4) (allBytes vs)) (no 8, l) .0)))
     go true = omega arith
     go false = omega arith
-put-small l at (no n) h = h
+put-small l at low (no n) f h = h
 
 not-done : (l : List ℕ) (at m p : ℕ) {k : List ℕ} → putBytesOf l at (no m) ≡ (ok p, k) → ⊥
 unfolding putBytesOf
 not-done l at m p e = not-both (sym (ap (λ (y : Said ℕ × List ℕ). y .0) e))
 
 module _ (l : List ℕ) (at n : ℕ) (l′ : List ℕ) where
-  -- the call answered n and left l′
+  -- the call answered n and left l′; of a target's words, with low bits
   abbrev pub Called : Said (List ℕ) → Type 0
   Called x = (n, l′) ≡ hostOf at (putBytesOf l at x)
 
-  is : (x : Said (List ℕ)) → Called x → n ≡ told (counted at (putBytesOf l at x .0))
-  is x e = ap (λ (y : ℕ × List ℕ). y .0) e
+  abbrev pub CalledTo : Option ℕ → Said (List ℕ) → Type 0
+  CalledTo low x = (n, l′) ≡ hostToOf at (carried low (putBytesOf l at x))
 
-  left : (x : Said (List ℕ)) → Called x → l′ ≡ putBytesOf l at x .1
-  left x e = ap (λ (y : ℕ × List ℕ). y .1) e
+  pub plainly : (x : Said (List ℕ)) → Called x → CalledTo none x
+  plainly x e = hosted-none l at x e
 
   -- the number is read as what the writer says
+  pub reads-to : (low : Option ℕ) (x : Said (List ℕ)) → Low low → Sane x → CalledTo low x → Reads n (countedTo at (carrying low (putBytesOf l at x .0)))
+  reads-to low x f h e =
+      let y = countedTo at (carrying low (putBytesOf l at x .0)) in
+      subst⁻¹ (λ (k : ℕ). Reads k y) (ap (λ (z : ℕ × List ℕ). z .0) e) (told-reads y (put-small l at low x f h))
+
   pub reads : (x : Said (List ℕ)) → Sane x → Called x → Reads n (counted at (putBytesOf l at x .0))
-  reads x h e = subst⁻¹ (λ (k : ℕ). Reads k (counted at (putBytesOf l at x .0))) (is x e) (told-reads (counted at (putBytesOf l at x .0)) (put-small l at x h))
+  reads x h e = subst⁻¹ (Reads n) (counted-none at (putBytesOf l at x .0)) (reads-to none x low-none h (plainly x e))
+
+  left : (low : Option ℕ) (x : Said (List ℕ)) → CalledTo low x → l′ ≡ putBytesOf l at x .1
+  left low x e = ap (λ (y : ℕ × List ℕ). y .1) e
 
   -- with a refusal every byte is as before
-  pub kept : (x : Said (List ℕ)) → Called x → (refusalIn n ≡ 0 → ⊥) → l′ ≡ l
-  kept x e h = go (putBytesOf l at x) refl (is x e) (left x e)
+  pub kept-to : (low : Option ℕ) (x : Said (List ℕ)) → CalledTo low x → (refusalIn n ≡ 0 → ⊥) → l′ ≡ l
+  kept-to low x e h = go (putBytesOf l at x) refl (ap (λ (y : ℕ × List ℕ). y .0) e) (left low x e)
     where
-      go : (y : Said ℕ × List ℕ) → putBytesOf l at x ≡ y → n ≡ told (counted at (y .0)) → l′ ≡ y .1 → l′ ≡ l
+      go : (y : Said ℕ × List ℕ) → putBytesOf l at x ≡ y → n ≡ told (countedTo at (carrying low (y .0))) → l′ ≡ y .1 → l′ ≡ l
       go (ok p, k) q r s = absurd (h (omega arith))
       go (no m, k) q r s = s ∙ bytes-refused l at k x m (sym q)
 
-  -- without one, the words asked for stand from the position on, as many as the value says; every other byte is as before, the tail too
-  pub record Stands (vs : List ℕ) : Type 0 where
-    pub count : valueIn n ≡ pos (length vs)
+  pub kept : (x : Said (List ℕ)) → Called x → (refusalIn n ≡ 0 → ⊥) → l′ ≡ l
+  kept x e = kept-to none x (plainly x e)
+
+  -- without one, the words asked for stand from the position on, as many as the number says, and the low bits are those that are carried; every
+  -- other byte is as before, the tail too
+  pub record Stands (low : Option ℕ) (vs : List ℕ) : Type 0 where
+    pub count : countIn n ≡ length vs
+    pub bits : lowIn n ≡ lowBits low
     pub words : slice (at * 4) ((at + length vs) * 4) l′ ≡ allBytes vs
     pub others : (k : ℕ) → (k < at * 4) ⊎ ((at + length vs) * 4 ≤ k) → getD l′ k 0 ≡ getD l k 0
 
-  pub stands : (x : Said (List ℕ)) → Sane x → Called x → refusalIn n ≡ 0 → (vs : List ℕ) × (x ≡ ok vs) × Stands vs
-  stands x h e z = go x h (putBytesOf l at x) refl (reads x h e) (left x e)
+  pub stands-to : (low : Option ℕ) (x : Said (List ℕ)) → Low low → Sane x → CalledTo low x → refusalIn n ≡ 0 → (vs : List ℕ) × (x ≡ ok vs) × Stands low vs
+  stands-to low x f h e z = go x h (putBytesOf l at x) refl (ap (λ (y : ℕ × List ℕ). y .0) e) (reads-to low x f h e) (left low x e)
     where
-      go : (x : Said (List ℕ)) → Sane x → (y : Said ℕ × List ℕ) → putBytesOf l at x ≡ y → Reads n (counted at (y .0)) → l′ ≡ y .1 → (vs : List ℕ) × (x ≡ ok vs) × Stands vs
-      go x h (no m, k) q r s = absurd (omega (arith, r .0 .0, r .1))
-      go (no m) h (ok p, k) q r s = absurd (not-done l at m p q)
-      go (ok vs) h (ok p, k) q r s =
+      go : (x : Said (List ℕ)) → Sane x → (y : Said ℕ × List ℕ) → putBytesOf l at x ≡ y → n ≡ told (countedTo at (carrying low (y .0)))
+          → Reads n (countedTo at (carrying low (y .0))) → l′ ≡ y .1 → (vs : List ℕ) × (x ≡ ok vs) × Stands low vs
+      go x h (no m, k) q i r s = absurd (omega (arith, r .0 .0, r .1))
+      go (no m) h (ok p, k) q i r s = absurd (not-done l at m p q)
+      go (ok vs) h (ok p, k) q i r s =
           let d = bytes-done l at k vs p (sym q) in
-          let many : p - at ≡ length vs = omega (arith, d .past) in (
+          let many : p - at ≡ length vs = omega (arith, d .past) in
+          let parts = told-parts n (p - at) (lowBits low) i (omega arith) f in (
             vs,
             refl,
             record {
-              count = r .1 ∙ ap pos many;
+              count = parts .0 ∙ many;
+              bits = parts .1;
               words = rw (s, ← d .past) (bytes-written l at vs p k (sym q));
               others = λ j o. rw s (bytes-others l at vs p k (sym q) j (rw (← d .past) at o));
             },
           )
+
+  pub stands : (x : Said (List ℕ)) → Sane x → Called x → refusalIn n ≡ 0 → (vs : List ℕ) × (x ≡ ok vs) × Stands none vs
+  stands x h e = stands-to none x low-none h (plainly x e)
 
 -- ---- each entry's words are four at most, and its refusals have numbers
 

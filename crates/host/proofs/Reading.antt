@@ -5,7 +5,7 @@ use Prim.Native.Nat.{ℕ, suc, _+_, _-_, _*_, _/_, _%_, _^_, _≤_, _<_}
 use native.Mathlib.Omega.{arith}
 use borrow.Author.Tests.{ltb-true, ltb-false}
 use lib.Dec.{ltb}
-use lib.IntN.{ℤ}
+use lib.IntN.{ℤ, pos}
 use lib.Pow.{pow-mono}
 use lib.Signed.{mag}
 use mir.Facts.{toZ-ofZ, toZ-pos, toZ-neg}
@@ -15,7 +15,7 @@ use Rattle.arm.specs.Bits.{SignExtend}
 use Rattle.arm.proofs.SignExtends.{double, extend}
 use Rattle.words.specs.Said.{Said, ok, no}
 use Rattle.words.specs.Answer.{IsNumber}
-use Rattle.host.specs.Number.{told, Reads}
+use Rattle.host.specs.Number.{told, Reads, countIn, lowIn}
 
 abbrev pub Small : Said ℤ → Type 0
 Small (ok v) = mag v < 2 ^ 55
@@ -28,6 +28,14 @@ told-reads (ok v) h =
 told-reads (no n) h =
     let none : n / 2 ^ 8 ≡ 0 = omega (arith, h .1) in
     (h, omega (arith, h .1), ap (λ (x : ℕ). toZ w64 (SignExtend 56 x)) none)
+
+-- a count of words and low bits are read apart
+pub told-parts : (n c l : ℕ) → n ≡ told (ok (pos (c + l * 2 ^ 8))) → c ≤ 4 → l < 4096 → (countIn n ≡ c) × (lowIn n ≡ l)
+told-parts n c l e h f =
+    let whole : n ≡ c * 256 + l * 65536 = omega (arith, e) in
+    let above : n / 256 ≡ c + l * 256 = omega (arith, whole) in
+    let top : n / 65536 ≡ l = omega (arith, whole) in
+    (rw above (omega arith), rw top (omega arith))
 
 -- a number of t bits, sign-extended, is read as one from - 2 ^ (t - 1) up to below 2 ^ (t - 1)
 pub extended-mag : (t v : ℕ) → 1 ≤ t → t ≤ 64 → v < 2 ^ t → mag (toZ w64 (SignExtend t v)) < 2 ^ (t - 1)

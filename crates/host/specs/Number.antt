@@ -2,8 +2,9 @@
 use mathlib.Core.Path.{_≡_}
 use mathlib.Core.Bool.{Bool, cond}
 use mathlib.Core.List.{List}
+use mathlib.Core.Option.{Option, some, none}
 use Prim.Native.Nat.{ℕ, _+_, _-_, _*_, _/_, _%_, _^_}
-use lib.IntN.{ℤ, pos, natAbs}
+use lib.IntN.{ℤ, pos}
 use lib.ListN.{getD}
 use lib.Seq.{slice}
 use mir.Syntax.{w64}
@@ -43,9 +44,28 @@ counted at (no n) = no n
 abbrev pub hostOf : ℕ → Said ℕ × List ℕ → ℕ × List ℕ
 hostOf at (x, bs) = (told (counted at x), bs)
 
+-- of the target entry: the same, and 256 times the low bits that are carried, which are 0 where none are
+abbrev pub lowBits : Option ℕ → ℕ
+lowBits none = 0
+lowBits (some l) = l
+
+abbrev pub countedTo : ℕ → Said (ℕ × Option ℕ) → Said ℤ
+countedTo at (ok (p, l)) = ok (pos (p - at + lowBits l * 2 ^ 8))
+countedTo at (no n) = no n
+
+abbrev pub hostToOf : ℕ → Said (ℕ × Option ℕ) × List ℕ → ℕ × List ℕ
+hostToOf at (x, bs) = (told (countedTo at x), bs)
+
+-- as a host reads them from an answer x without a refusal: bits 8 to 15 how many words were written, bits 16 to 27 the low bits
+abbrev pub countIn : ℕ → ℕ
+countIn x = x / 2 ^ 8 % 2 ^ 8
+
+abbrev pub lowIn : ℕ → ℕ
+lowIn x = x / 2 ^ 16 % 2 ^ 12
+
 -- the words that a host finds in the bytes after a call: from the position on, as many as the answer x says
 abbrev pub wordsFrom : (x at : ℕ) → List ℕ → List ℕ
-wordsFrom x at bs = wordsIn (slice (at * 4) ((at + natAbs (valueIn x)) * 4) bs)
+wordsFrom x at bs = wordsIn (slice (at * 4) ((at + countIn x) * 4) bs)
 
 -- the first of them
 abbrev pub wordAt : (x at : ℕ) → List ℕ → ℕ

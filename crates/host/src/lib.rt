@@ -2,6 +2,8 @@
 // refused), and in the bits above it, read as signed, the value (0 with a refusal). A position counts words; a word is four bytes, low byte
 // first; a tail under four bytes is no room.
 use displacements::DistanceAnswer;
+use displacements::Low12;
+use displacements::TargetWord;
 use forms::FormAnswer;
 use logical::LogicalAnswer;
 use logical::LogicalImm;
@@ -10,19 +12,21 @@ use words::Opc;
 use words::Refusal;
 use words::WordPos;
 use words::Worded;
+use words::Words;
 use words::Written;
 ghost use mathlib.Core.Path.{_≡_};
-ghost use Prim.Native.Nat.{_≤_};
+ghost use mathlib.Core.Option.{some};
+ghost use Prim.Native.Nat.{_≤_, _<_};
 ghost use Rattle.words.specs.Said.{Said};
 ghost use Rattle.words.specs.Answer.{numberOf, said, made};
-ghost use Rattle.words.specs.Listed.{listed};
+ghost use Rattle.words.specs.Listed.{listOf, listed};
 ghost use Rattle.writers.specs.Put.{putBytesOf};
 ghost use Rattle.logical_words.specs.Word.{ForWord};
 ghost use Rattle.moves.specs.Moves.{movSaid};
 ghost use Rattle.patchable_moves.specs.Patchable.{patchSaid};
-ghost use Rattle.displacements.specs.Answer.{dispSaid, targetSaid, readSaid};
+ghost use Rattle.displacements.specs.Answer.{dispSaid, targetSaid, lowOf, carrying, carried, readSaid};
 ghost use Rattle.forms.specs.Form.{formSaid};
-ghost use Rattle.host.specs.Number.{told, counted, hostOf, spelled, ForFields, yesNo};
+ghost use Rattle.host.specs.Number.{told, counted, hostOf, countedTo, hostToOf, spelled, ForFields, yesNo};
 ghost use Rattle.host.specs.Private.{Near};
 
 // A refusal has no value.
@@ -48,6 +52,28 @@ fn put(bytes: &mut [u8], position: usize, m: Worded) -> u64
     ensures { λ r. ⌜ (r, now (bytes .exit)) ≡ hostOf position (putBytesOf (now (bytes .entry)) position (listed (made m))) ⌝ }
 {
     written(position, writers::put_bytes(bytes, WordPos(position), m))
+}
+
+// The same with the low bits of a target above the number of words.
+fn written_page(at: usize, w: Written, low: Low12) -> u64
+    requires { ⌜ Near at (said w) × (low .0 < 4096) ⌝ }
+    ensures { λ n. ⌜ n ≡ told (countedTo at (carrying (some (low .0)) (said w))) ⌝ }
+{
+    match w {
+        Written::Done(p) => ((p.0 - at) * 256) as u64 + low.0 as u64 * 65536,
+        Written::No(r) => refused(r),
+    }
+}
+
+fn put_page(bytes: &mut [u8], position: usize, f: Words, low: Low12) -> u64
+    requires { ⌜ low .0 < 4096 ⌝ }
+    ensures { λ r. ⌜ (r, now (bytes .exit)) ≡ hostToOf position (carried (some (low .0)) (putBytesOf (now (bytes .entry)) position (Said.ok (listOf f)))) ⌝ }
+{
+    written_page(
+        position,
+        writers::put_bytes(bytes, WordPos(position), Worded::Made(f)),
+        low,
+    )
 }
 
 // A move of a value to a register: 2, 8.
@@ -138,7 +164,8 @@ pub extern "C" fn vaimalofo_displacement(
     )
 }
 
-// The same from a target and the address of the instruction: 7, 11, 6, 4, 5, 8.
+// The same from a target and the address of the instruction: 7, 11, 6, 4, 5, 8. An ADRP never gives 4, and its answer has the target's low 12 bits
+// from bit 16 on.
 #[no_mangle]
 pub extern "C" fn vaimalofo_displacement_to(
     bytes: &mut [u8],
@@ -148,13 +175,13 @@ pub extern "C" fn vaimalofo_displacement_to(
     target: u64,
     address: u64,
 ) -> u64
-    ensures { λ r. ⌜ (r, now (bytes .exit)) ≡ hostOf position (putBytesOf (now (bytes .entry)) position (targetSaid format base target address)) ⌝ }
+    ensures { λ r. ⌜ (r, now (bytes .exit)) ≡ hostToOf position (carried (lowOf format target) (putBytesOf (now (bytes .entry)) position (targetSaid format base target address))) ⌝ }
 {
-    put(
-        bytes,
-        position,
-        displacements::disp_target_word(format, Opc(base), target, address),
-    )
+    match displacements::disp_target_word(format, Opc(base), target, address) {
+        TargetWord::Word(f) => put(bytes, position, Worded::Made(f)),
+        TargetWord::PageWord(f, low) => put_page(bytes, position, f, low),
+        TargetWord::NoWord(r) => refused(r),
+    }
 }
 
 // 1 above the low byte, or 0.

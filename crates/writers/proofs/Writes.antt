@@ -13,6 +13,16 @@ use Rattle.words.specs.Said.{Said, ok, no}
 use Rattle.words.proofs.Answers.{not-both}
 use Rattle.writers.specs.Put.{putOf, putBytesOf, allBytes, wordsIn}
 
+-- a refusal is handed on, and the run is as it was
+module _ (ws : List ℕ) (at n : ℕ) where
+  pub put-no : putOf ws at (no n) ≡ (no n, ws)
+  unfolding putOf
+  put-no = refl
+
+  pub bytes-no : putBytesOf ws at (no n) ≡ (no n, ws)
+  unfolding putBytesOf
+  bytes-no = refl
+
 -- the words fit, or there is no room for them
 module _ (ws : List ℕ) (at : ℕ) (vs : List ℕ) where
   pub put-fits : at + length vs ≤ length ws → putOf ws at (ok vs) ≡ (ok (at + length vs), sets ws at vs)

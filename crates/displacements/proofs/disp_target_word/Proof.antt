@@ -1,17 +1,34 @@
 -- `displacements::disp_target_word` meets its contract. Assumes nothing.
-use mathlib.Core.Path.{ap, _∙_}
+use mathlib.Core.Path.{sym, ap, _∙_}
 use borrow.Author.Needs.{needs}
-use lib.IntN.{ℤ}
-use Rattle.words.specs.Listed.{packed}
-use Rattle.displacements.specs.Answer.{dispSaid, between}
+use Rattle.words.specs.Answer.{made}
+use Rattle.displacements.proofs.Targets.{with-page, with-none, with-refusal}
 use Rattle.displacements.proofs.disp_target_word.Statement.{statement}
 use Rattle.displacements.proofs.disp_target_word.Tie as tie
 
 returns : tie.Need-returns
 returns c =
-    let a = c .before .before .before .args in
-    let distance = c .before .distance-to .ensures ∙ ap (between (a .target)) (c .before .before .origin .ensures) in
-    c .disp-word .ensures ∙ ap (λ (d : ℤ). packed (dispSaid (a .format) (a .base .0) d)) distance
+    let k = c .before .before in
+    let m = k .before .before in
+    let low = m .before .before in
+    let a = low .before .args in
+    let word = rw (m .before .distance-to .ensures) at (m .disp-word .ensures) in
+    with-page (a .format) (a .target) _ _ _ (sym word ∙ ap made (k .f .given .1)) (c .if1 .taken) (low .low-12 .ensures)
+
+returns-2 : tie.Need-returns-2
+returns-2 c =
+    let k = c .before .before in
+    let m = k .before .before in
+    let a = m .before .before .before .args in
+    let word = rw (m .before .distance-to .ensures) at (m .disp-word .ensures) in
+    with-none (a .format) (a .target) _ _ (sym word ∙ ap made (k .f .given .1)) (c .if1 .left)
+
+returns-3 : tie.Need-returns-3
+returns-3 c =
+    let m = c .before .before .before in
+    let a = m .before .before .before .args in
+    let word = rw (m .before .distance-to .ensures) at (m .disp-word .ensures) in
+    with-refusal (a .format) (a .target) _ _ (sym word ∙ ap made (c .before .r .given .1))
 
 pub disp-target-word-spec : {M : Type 1} → statement M
-disp-target-word-spec = tie.close (tie.spec (search needs) (search needs) (search needs) returns)
+disp-target-word-spec = tie.close (tie.spec (search needs) (search needs) (search needs) (search needs) (search needs) returns returns-2 returns-3)

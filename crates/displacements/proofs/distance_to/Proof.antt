@@ -6,14 +6,18 @@ use borrow.Author.Needs.{needs}
 use mir.Facts.{toZ-ofZ}
 use mir.Syntax.{w64}
 use mir.Val.{toZ}
+use Rattle.displacements.specs.Answer.{pageOf}
 use Rattle.displacements.proofs.distance_to.Statement.{statement}
 use Rattle.displacements.proofs.distance_to.Tie as tie
 
 returns : tie.Need-returns
 returns c =
-    let a = c .before .before .args in
-    let e : c .before .wrapping-sub-u64 .result ≡ (a .target + (2 ^ 64 - a .address)) % 2 ^ 64 = omega arith in
-    toZ-ofZ {w = w64} (record { sfits = c .signed-of .ok }) ∙ c .signed-of .ensures ∙ ap (toZ w64) e
+    let p = c .before .before in
+    let a = p .before .before .args in
+    let t = p .before .page .ensures in
+    let o = p .page2 .ensures in
+    let e : c .before .wrapping-sub-u64 .result ≡ (p .before .page .result + (2 ^ 64 - p .page2 .result)) % 2 ^ 64 = omega arith in
+    toZ-ofZ {w = w64} (record { sfits = c .signed-of .ok }) ∙ c .signed-of .ensures ∙ ap (toZ w64) (rw (t, o) at e)
 
 pub distance-to-spec : {M : Type 1} → statement M
-distance-to-spec = tie.close (tie.spec (search needs) (search needs) returns)
+distance-to-spec = tie.close (tie.spec (search needs) (search needs) (search needs) (search needs) returns)

@@ -1,0 +1,14 @@
+-- `displacements::wrote` meets its contract. Assumes nothing.
+use mathlib.Core.Path.{refl}
+use borrow.Author.Needs.{needs}
+use Rattle.displacements.proofs.wrote.Statement.{statement}
+use Rattle.displacements.proofs.wrote.Tie as tie
+
+returns : tie.Need-returns
+returns c = rw (c .before .w .given .1) refl
+
+returns-2 : tie.Need-returns-2
+returns-2 c = rw (c .before .w2 .given .1) refl
+
+pub wrote-spec : {M : Type 1} → statement M
+wrote-spec = tie.close (tie.spec (search needs) (search needs) returns returns-2)
