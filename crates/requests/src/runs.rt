@@ -4,6 +4,7 @@ use crate::answers::answer;
 use crate::answers::one;
 use crate::low;
 use crate::wide;
+use displacements::TargetWritten;
 use lines::Answer;
 use words::ByteDistance;
 use words::Opc;
@@ -89,9 +90,18 @@ fn position(w: Written) -> Answer {
     }
 }
 
+// The same of a target, and behind the position of an ADRP the target's low bits.
+fn reached(w: TargetWritten) -> Answer {
+    match w {
+        TargetWritten::Wrote(p) => one(low(p.0 as u64)),
+        TargetWritten::WrotePage(p, l) => Answer::Numbers(words::two(low(p.0 as u64), l.0)),
+        TargetWritten::NotWritten(r) => Answer::No(r),
+    }
+}
+
 // What was answered, then the run, four words to a line.
-fn run_lines(w: Written, run: &[u32], out: &mut [u8]) -> usize {
-    let p = lines::line(position(w), out, 0);
+fn run_lines(a: Answer, run: &[u32], out: &mut [u8]) -> usize {
+    let p = lines::line(a, out, 0);
     if run.len() == 0 {
         return p;
     }
@@ -151,27 +161,27 @@ fn by_distance(r: Request, run: &mut [u32]) -> Written {
     displacements::emit_disp_imm(run, at, low(r.a), Opc(low(r.b)), distance)
 }
 
-fn by_target(r: Request, run: &mut [u32]) -> Written {
+fn by_target(r: Request, run: &mut [u32]) -> TargetWritten {
     let at = WordPos(r.f as usize);
     displacements::emit_disp_target(run, at, low(r.a), Opc(low(r.b)), r.c, r.d)
 }
 
-fn write(r: Request, run: &mut [u32]) -> Written {
+fn write(r: Request, run: &mut [u32]) -> Answer {
     let k = r.entry;
     match k {
-        18 => put(r, run),
-        49 => logical_word(r, run),
-        80 => move_to(r, run),
-        96 => patchable(r, run),
-        112 => by_distance(r, run),
-        113 => by_target(r, run),
-        _ => Written::No(Refusal::Unknown),
+        18 => position(put(r, run)),
+        49 => position(logical_word(r, run)),
+        80 => position(move_to(r, run)),
+        96 => position(patchable(r, run)),
+        112 => position(by_distance(r, run)),
+        113 => reached(by_target(r, run)),
+        _ => Answer::No(Refusal::Unknown),
     }
 }
 
 fn in_words(r: Request, run: &mut [u32], out: &mut [u8]) -> usize {
-    let w = write(r, run);
-    run_lines(w, run, out)
+    let a = write(r, run);
+    run_lines(a, run, out)
 }
 
 fn on_words(r: Request, n: usize, out: &mut [u8]) -> usize
@@ -213,19 +223,19 @@ fn all_packed(run: &[u8]) -> [u32; 8]
 }
 
 // A run of bytes as words, the last one short where a tail is left.
-fn packed_lines(w: Written, run: &[u8], out: &mut [u8]) -> usize
+fn packed_lines(a: Answer, run: &[u8], out: &mut [u8]) -> usize
     requires { ⌜ length (now run) ≤ 32 ⌝ }
 {
     let words = all_packed(run);
     let all = (run.len() + 3) / 4;
-    run_lines(w, &words[..all], out)
+    run_lines(a, &words[..all], out)
 }
 
 fn in_bytes(r: Request, run: &mut [u8], out: &mut [u8]) -> usize
     requires { ⌜ length (now run) ≤ 32 ⌝ }
 {
     let w = writers::put_bytes(run, WordPos(r.b as usize), words_of(r));
-    packed_lines(w, run, out)
+    packed_lines(position(w), run, out)
 }
 
 fn on_bytes(r: Request, n: usize, out: &mut [u8]) -> usize
