@@ -5,7 +5,9 @@ use std::fs;
 use std::path::Path;
 
 use oracle::document::No;
-use oracle::document::displacements::{FORMATS, FORMS, disp_word, distance, has_form, read_disp};
+use oracle::document::displacements::{
+    FORMATS, FORMS, disp_word, distance, has_form, low_12, read_disp,
+};
 use oracle::document::immediates::{encode_byte_mask, encode_float, expand_float};
 use oracle::document::logical::{encode_logical_imm, masks, normalise};
 use oracle::document::moves::{move_words, patchable_words};
@@ -211,6 +213,24 @@ fn the_wrong_form_is_told_after_the_format_and_before_the_rest() {
     // The Rust looks at no base, and the reader at no form.
     assert_eq!(rust::emit_disp_imm(0, 0x1000_0000, 4), Some(Some(0x1000_0001)));
     assert_eq!(read_disp(0x1000_0001, 0), Ok(4));
+}
+
+#[test]
+fn an_adrp_goes_to_any_target() {
+    let adrp = |target, address| disp_word(4, 0x9000_0000, distance(4, target, address));
+    assert_eq!((adrp(0x3000, 0x1FFF), low_12(4, 0x3000)), (Ok(0xD000_0000), Some(0)));
+    assert_eq!((adrp(0x3FFF, 0x1000), low_12(4, 0x3FFF)), (Ok(0xD000_0000), Some(0xFFF)));
+    assert_eq!(adrp(0x123, u64::MAX - 3), Ok(0xB000_0000));
+    assert_eq!(adrp(0x1_0000_0FFF, 0x1000), Ok(0xF07F_FFE0));
+    assert_eq!(adrp(0x1_0000_1000, 0x1FFF), Err(No(5)));
+    assert_eq!(adrp(0x1000, 0x1_0000_1FFF), Ok(0x9080_0000));
+    assert_eq!(adrp(0xFFF, 0x1_0000_1000), Err(No(5)));
+    // By distance the bits count, and no other format carries them or loses them.
+    assert_eq!(disp_word(4, 0x9000_0000, 0x2004), Err(No(4)));
+    assert_eq!((distance(3, 0x3004, 0x3000), low_12(3, 0x3004)), (4, None));
+    // The Rust wants the target on a page.
+    assert_eq!(rust::emit_rel(4, 0x9000_0000, 0x3004, 0x1000), Some(Ok(None)));
+    assert_eq!(rust::emit_rel(4, 0x9000_0000, 0x3000, 0x1000), Some(Ok(Some(0xD000_0000))));
 }
 
 #[test]

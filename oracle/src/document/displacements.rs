@@ -1,4 +1,5 @@
-//! Module 7: displacements; and document 02's request h, by which a base must have its format's form.
+//! Module 7: displacements; with document 02's request h, by which a base must have its format's form,
+//! and request f, by which an ADRP goes to any target.
 
 use super::{No, words};
 
@@ -151,10 +152,19 @@ pub fn emit_disp_imm(
     words::put(run, position, &[disp_word(format, base, distance)?])
 }
 
-/// Target minus address modulo 2^64, read as signed; for ADRP the address loses its low 12 bits.
+/// An address as a format counts from it and to it: for ADRP the page that it is on.
+pub fn page(format: u32, address: u64) -> u64 {
+    if format == 4 { address / 4096 * 4096 } else { address }
+}
+
+/// Target minus address modulo 2^64, read as signed; for ADRP both lose their low 12 bits.
 pub fn distance(format: u32, target: u64, address: u64) -> i64 {
-    let origin = if format == 4 { address - address % 4096 } else { address };
-    target.wrapping_sub(origin) as i64
+    page(format, target).wrapping_sub(page(format, address)) as i64
+}
+
+/// The low 12 bits of the target, which an ADRP carries for the ADD behind it.
+pub fn low_12(format: u32, target: u64) -> Option<u64> {
+    (format == 4).then_some(target % 4096)
 }
 
 /// The signed distance that a word spells, whatever its form. Refusal 7: no such format.

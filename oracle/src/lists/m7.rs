@@ -3,11 +3,13 @@
 //! single bit set; wrong formats and no room. Targets: the same edges around several addresses, and
 //! ones that wrap past 2^64. Reading: single bits and random words. Forms: every top byte of a base
 //! with several lower bits, the neighbours of each real base by one bit, the bases of the other
-//! formats, every condition with bit 4 clear and set, and refusals that apply at once.
+//! formats, every condition with bit 4 clear and set, and refusals that apply at once. Pages: targets at
+//! the ends of a page and inside it, around the ends of the range of pages and of the addresses, at
+//! every format; and 2,500 random ones of an ADRP that are in range.
 
 use super::random::Random;
 use super::{List, U32, room};
-use crate::document::displacements::{FORMATS, Format};
+use crate::document::displacements::{FORMATS, Format, page};
 use crate::replay::request::{Request, entry::*};
 
 pub const LIST: List =
@@ -60,6 +62,11 @@ fn requests() -> Vec<Request> {
     for word in 0x5400_0000..0x5400_0020 {
         forms_asked(&mut list, 1, &FORMATS[1], word);
     }
+    for number in 0..6 {
+        pages(&mut list, number);
+    }
+    page_orders(&mut list);
+    list.extend((0..2500).map(|_| any_page(&mut random)));
     list
 }
 
@@ -128,7 +135,7 @@ fn targets(list: &mut Vec<Request>, number: u64, format: &Format) {
     let base = BASES[number as usize][0];
     let addresses = [0, 4, 0x1000, 0x1FF8, 0x1FFC, 0x2003, U32 - 3, 1 << 32, 1 << 63, u64::MAX - 3];
     for address in addresses {
-        let origin = if number == 4 { address - address % 4096 } else { address };
+        let origin = page(number as u32, address);
         for distance in edges(format).into_iter().chain([8]) {
             let target = origin.wrapping_add(distance as u64);
             list.push(Request::new(DISP_TARGET, &[number, base, target, address, 1, 0]));
@@ -190,6 +197,54 @@ fn orders(list: &mut Vec<Request>, number: u64, format: &Format) {
     }
 }
 
+/// Places in a page: its ends, what an ADD's field or a shorter one could lose, and multiples of small
+/// powers of two.
+const PLACES: [u64; 10] = [0, 1, 2, 4, 8, 0x7FF, 0x800, 0xFF8, 0xFFC, 0xFFF];
+
+/// Targets by their page and their place in it, from addresses at the ends of pages, of the 32-bit
+/// numbers and of all: for ADRP around the ends of the range, else around the address.
+fn pages(list: &mut Vec<Request>, number: u64) {
+    let adrp = &FORMATS[4];
+    let addresses =
+        [0, 0xFFC, 0x1000, 0x1FF8, 0x2003, U32 - 3, 1 << 32, 1 << 63, u64::MAX - 4095, u64::MAX];
+    let limits = if number == 4 { &[adrp.least, 0, adrp.greatest][..] } else { &[0] };
+    let apart = limits.iter().flat_map(|limit| [limit - adrp.step, *limit, limit + adrp.step]);
+    for distance in apart {
+        for address in addresses {
+            for place in PLACES {
+                let target = page(4, address).wrapping_add(distance as u64) + place;
+                let base = BASES[number as usize][0];
+                list.push(Request::new(DISP_TARGET, &[number, base, target, address, 1, 0]));
+            }
+        }
+    }
+}
+
+/// Refusals at a target inside a page: another form, a field that is taken, too far, no room; and by
+/// distance, where the bits are not cleared.
+fn page_orders(list: &mut Vec<Request>) {
+    let bases = [BASES[4][1], BASES[4][1] | FIELD_BIT, BASES[3][0], BASES[3][0] | FIELD_BIT];
+    for base in bases {
+        for target in [0x3004, 0x3FFF, 0x1_0000_0FFF, 0x1_0000_1001] {
+            for [len, position] in [[1, 0], [0, 0], [1, 1], [3, 2], [8, u64::MAX]] {
+                let room = [0x1000, len, position];
+                let args = [&[4, base, target][..], &room].concat();
+                list.push(Request::new(DISP_TARGET, &args));
+            }
+            list.push(Request::new(DISP_IMM, &[4, base, target, 1, 0]));
+        }
+    }
+}
+
+/// An ADRP in range, from an address on the step of an instruction, to any place of its target's page.
+fn any_page(random: &mut Random) -> Request {
+    let address = random.value() >> random.one_of(&[0, 0, 32, 33, 44]) & !3;
+    let distance = in_range(&FORMATS[4], random) as u64;
+    let target = page(4, address).wrapping_add(distance) + random.below(4096);
+    let base = BASES[4][0] | random.below(32);
+    Request::new(DISP_TARGET, &[4, base, target, address, 1, 0])
+}
+
 fn any(entry: u64, random: &mut Random) -> Request {
     let number = random.below(6);
     let format = &FORMATS[number as usize];
@@ -204,8 +259,9 @@ fn any(entry: u64, random: &mut Random) -> Request {
         1 => random.number(),
         _ => random.below(1 << 32) & !3,
     };
-    let origin = if number == 4 { address - address % 4096 } else { address };
-    let target = origin.wrapping_add(distance as u64);
+    // Half of the ADRPs go to the start of a page.
+    let place = if number == 4 { random.below(2) * random.below(4096) } else { 0 };
+    let target = page(number as u32, address).wrapping_add(distance as u64).wrapping_add(place);
     let base =
         if random.below(8) == 0 { random.value() } else { random.one_of(BASES[number as usize]) };
     let number = if random.below(32) == 0 { random.number() } else { number };

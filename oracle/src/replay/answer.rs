@@ -48,6 +48,15 @@ impl Answer {
         Self { said, run }
     }
 
+    /// The same with the low bits of a target behind the position, where there are any; a refusal has
+    /// none.
+    pub fn carrying(mut self, low: Option<u64>) -> Self {
+        if let Said::Numbers(numbers) = &mut self.said {
+            numbers.extend(low);
+        }
+        self
+    }
+
     pub fn is_ok(&self) -> bool {
         !matches!(self.said, Said::No(_))
     }

@@ -116,7 +116,7 @@ fn module_7(r: &Request) -> Option<Answer> {
             let distance = displacements::distance(format, r.args[2], r.args[3]);
             let position =
                 displacements::emit_disp_imm(&mut run, r.args[5], format, base, distance);
-            Answer::wrote(position, run)
+            Answer::wrote(position, run).carrying(displacements::low_12(format, r.args[2]))
         }
         READ_DISP => wide(displacements::read_disp(r.low(0), r.low(1)).map(|d| d as u64)),
         HAS_FORM => numbers(displacements::has_form(format, base).map(|yes| [yes.into()])),

@@ -2,7 +2,7 @@
 
 use super::answer::Answer;
 use super::request::{Request, entry::*};
-use crate::document::{No, logical};
+use crate::document::{No, displacements, logical};
 use crate::rust::{self, Panics};
 
 #[derive(Clone, Debug, PartialEq, Eq)]
@@ -19,6 +19,17 @@ pub enum Heard {
 }
 
 use Heard::{Lacks, Overflows, Says, Spoils};
+
+impl Heard {
+    /// An answer with the low bits of a target, which the Rust has no place for: as the run and the
+    /// position, they are the harness's, put beside the Rust's own word.
+    pub fn carrying(self, low: Option<u64>) -> Self {
+        match self {
+            Says(answer) => Says(answer.carrying(low)),
+            other => other,
+        }
+    }
+}
 
 pub fn heard(r: &Request) -> Heard {
     match r.entry / 16 {
@@ -145,7 +156,8 @@ fn module_7(r: &Request) -> Heard {
                 return Lacks;
             };
             let word = rust::emit_rel(format, base, r.args[2], offset);
-            word.map_or(Lacks, |word| unless_panics(word, |word| emitted(4, word)))
+            let heard = word.map_or(Lacks, |word| unless_panics(word, |word| emitted(4, word)));
+            heard.carrying(displacements::low_12(format, r.args[2]))
         }
         _ => Lacks,
     }

@@ -53,6 +53,10 @@ pub enum Class {
     /// refuses a distance off the step; here 11.
     WrongForm,
 
+    // What document 02's request f takes.
+    /// An ADRP to a target inside a page: the Rust refuses it; here the word of its page, or 5 or 8.
+    PageTarget,
+
     /// The Rust has no such entry, or cannot be asked this (no room in a lent run, for one).
     Added,
 }
@@ -124,6 +128,10 @@ fn target_class(r: &Request, document: &Answer) -> Option<Class> {
     match displacements::disp_word(r.low(0), r.low(1), from_four) {
         Err(No(6)) => document.is_no(6).then_some(BaseOred),
         Err(No(5)) if document.is_no(5) => Some(DistanceCut),
+        Err(No(4)) => {
+            let taken = document.is_ok() || matches!(document.said, Said::No(5 | 8));
+            (r.low(0) == 4 && taken).then_some(PageTarget)
+        }
         _ => {
             let own = displacements::distance(r.low(0), r.args[2], r.args[3]);
             let answered = document.is_ok() || document.is_no(5);

@@ -182,15 +182,19 @@ fn displaced(r: &Request, i: usize, distance: i64) -> Heard {
     written(r, i, &[word])
 }
 
-/// A target's distance as the Rust counts it: from four bytes on.
+/// Where the Rust counts a target's distance from: four bytes on, for ADRP from that page.
+fn origin(r: &Request) -> u64 {
+    displacements::page(r.low(0), r.args[3].wrapping_add(4))
+}
+
+/// A target's distance as the Rust counts it: the target keeps its low bits.
 pub fn from_four(r: &Request) -> i64 {
-    displacements::distance(r.low(0), r.args[2], r.args[3].wrapping_add(4))
+    r.args[2].wrapping_sub(origin(r)) as i64
 }
 
 /// Whether that distance does not fit 64 signed bits.
 pub fn overflows(r: &Request) -> bool {
-    let origin = r.args[2].wrapping_sub(from_four(r) as u64);
-    (r.args[2] as i64).checked_sub(origin as i64).is_none()
+    (r.args[2] as i64).checked_sub(origin(r) as i64).is_none()
 }
 
 /// A buffer's offset has 32 bits.
@@ -198,7 +202,7 @@ fn displaced_to(r: &Request) -> Heard {
     match r.args[3] {
         0x1_0000_0000.. => Lacks,
         _ if r.low(0) < 6 && CHECKED && overflows(r) => Panics,
-        _ => displaced(r, 4, from_four(r)),
+        _ => displaced(r, 4, from_four(r)).carrying(displacements::low_12(r.low(0), r.args[2])),
     }
 }
 
