@@ -1,6 +1,6 @@
 #!/usr/bin/env python3
-"""stored.py moves|displacements|forms: what the stored answers have written, or have said of forms, in the form that moves_qemu.py,
-displacements_as.py and forms_objdump.py read.
+"""stored.py moves|displacements|pages|forms: what the stored answers have written, or have said of forms, in the form that moves_qemu.py,
+displacements_as.py, pages_ld.py and forms_objdump.py read.
 
 The stored requests and answers (crates/replay, crates/differences) are what the gate sees the proved programs print, so a judge of them
 judges the programs."""
@@ -54,6 +54,18 @@ def displacements():
             print(form % 2 ** 32, f"{base % 2 ** 32:x}", bits - 2 ** 64 if bits >> 63 else bits, *words)
 
 
+def pages():
+    """The ADRPs to targets, from addresses where an instruction can stand: the word and the low bits, or that the page is too far."""
+    for entry, arguments, answer, words in all_answered():
+        form, base, target, address, _, position = arguments[:6]
+        if entry == TARGET and form % 2 ** 32 == 4 and address % 4 == 0:
+            asked = f"{address:x} {base % 2 ** 32:x} {target:x}"
+            if answer[0] == "ok":
+                print(asked, words[position], answer[2])
+            elif answer == ["no", "5"]:
+                print(asked, "far")
+
+
 def forms():
     """A base that gets 11 has not the form; one that gets anything else has it, but for 7, which is told before."""
     for entry, (form, word, *_), answer, _ in all_answered():
@@ -62,4 +74,4 @@ def forms():
             print(f"{word % 2 ** 32:x}", form % 2 ** 32, "-" if answer == lacking else form % 2 ** 32)
 
 
-{"moves": moves, "displacements": displacements, "forms": forms}[sys.argv[1]]()
+{"moves": moves, "displacements": displacements, "pages": pages, "forms": forms}[sys.argv[1]]()

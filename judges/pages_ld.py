@@ -1,0 +1,93 @@
+#!/usr/bin/env python3
+"""ADRP words and the low bits that go with them, against GNU ld.
+
+Reads lines `ADDRESS_HEX BASE_HEX TARGET_HEX WORD_HEX LOW_DECIMAL` from standard input, or `ADDRESS_HEX BASE_HEX TARGET_HEX far` where the
+target's page was said to be out of range. GNU as leaves ADRP and the ADD behind it to the linker (R_AARCH64_ADR_PREL_PG_HI21 and
+R_AARCH64_ADD_ABS_LO12_NC). GNU ld, with the ADRP at the address and the symbol at the target, must put the word there and the low bits
+into the ADD, or find the page too far. The last line is `N passed, M failed`; the exit status is 1 if a line failed. Where the tools are missing it
+says `skipped: ..` and exits 0, after it has read all lines: who writes them must not meet a closed pipe.
+"""
+import os
+import re
+import struct
+import sys
+import tempfile
+
+from gnu import close, lacks, run
+
+# Pairs that one run of the linker is given: each has a section of its own.
+BATCH = 2500
+
+
+def parse(line):
+    """Address, base, target, and the word with the low bits, or None for too far; or None and why there are none."""
+    parts = line.split()
+    try:
+        address, base, target = (int(part, 16) for part in parts[:3])
+        said = None if parts[3:] == ["far"] else (int(parts[3], 16), int(parts[4]))
+    except (ValueError, IndexError):
+        return None, "not ADDRESS_HEX BASE_HEX TARGET_HEX WORD_HEX LOW_DECIMAL, or far in place of the last two"
+    if base & ~31 != 0x90000000 or address % 4:
+        return None, "the base is no ADRP with an empty field, or no instruction stands at the address"
+    return address, base, target, said
+
+
+def section_bytes(path):
+    """The bytes of each section of an ELF file, by its name."""
+    with open(path, "rb") as f:
+        data = f.read()
+    (start,) = struct.unpack_from("<Q", data, 0x28)
+    size, count, names = struct.unpack_from("<3H", data, 0x3A)
+    heads = [struct.unpack_from("<2I4Q", data, start + size * i) for i in range(count)]
+    text = heads[names][4]
+    return {data[text + h[0] : data.index(0, text + h[0])].decode(): data[h[4] : h[4] + h[5]] for h in heads}
+
+
+def link(pairs, folder):
+    """For each pair the ADRP word and the ADD's field, or None where the linker finds the page too far."""
+    source, script, thing, linked = (os.path.join(folder, n) for n in ("pages.s", "pages.ld", "pages.o", "pages"))
+    with open(source, "w") as f:
+        for i, (_, base, _, _) in enumerate(pairs):
+            register = "xzr" if base & 31 == 31 else f"x{base & 31}"
+            f.write(f'.section .adrp{i},"ax"\nadrp {register}, t{i}\n.section .adds,"ax"\nadd x0, x0, :lo12:t{i}\n')
+    with open(script, "w") as f:
+        f.write("SECTIONS {\n")
+        f.writelines(f"t{i} = {target:#x};\n.adrp{i} {address:#x} : {{ *(.adrp{i}) }}\n" for i, (address, _, target, _) in enumerate(pairs))
+        f.write(".adds 0 : { *(.adds) }\n}\n")
+    made = run("as", "-o", thing, source)
+    if made.returncode != 0:
+        sys.exit("the assembler failed: " + made.stderr[:2000])
+    # Many pairs stand at one address; a page too far is told for each, and the rest is linked all the same.
+    made = run("ld", "-n", "--no-check-sections", "--noinhibit-exec", "--verbose", "-T", script, "-o", linked, thing)
+    told = [line for line in made.stderr.splitlines() if line.strip()]
+    far = [re.search(r"\(\.adrp(\d+)\+0x0\): relocation truncated to fit: R_AARCH64_ADR_PREL_PG_HI21 ", line) for line in told]
+    if made.returncode != 0 or not all(far):
+        sys.exit("the linker failed: " + made.stderr[:2000])
+    far = {int(m.group(1)) for m in far}
+    found = section_bytes(linked)
+    adds = struct.unpack(f"<{len(pairs)}I", found[".adds"])
+    word = lambda i: (int.from_bytes(found[f".adrp{i}"], "little"), adds[i] >> 10 & 0xFFF)
+    return [None if i in far else word(i) for i in range(len(pairs))]
+
+
+def shown(answer):
+    return "too far" if answer is None else f"{answer[0]:08x} and {answer[1]}"
+
+
+def main():
+    lines = [l.strip() for l in sys.stdin if l.strip()]
+    if lacks("as", "ld"):
+        return 0
+    given = [parse(l) for l in lines]
+    failures = {i: why for i, (address, why, *_) in enumerate(given) if address is None}
+    known = [i for i in range(len(lines)) if i not in failures]
+    for start in range(0, len(known), BATCH):
+        batch = known[start : start + BATCH]
+        with tempfile.TemporaryDirectory() as folder:
+            answers = link([given[i] for i in batch], folder)
+        failures.update((i, f"GNU ld gives {shown(answer)}") for i, answer in zip(batch, answers) if answer != given[i][3])
+    return close(lines, failures)
+
+
+if __name__ == "__main__":
+    sys.exit(main())
