@@ -55,6 +55,16 @@ static inline int64_t vaimalofo_value(uint64_t answer) {
     return above < (UINT64_C(1) << 55) ? (int64_t)above : -(int64_t)((UINT64_C(1) << 56) - above);
 }
 
+/* Of an entry that writes, without a refusal: how many words it has written. */
+static inline size_t vaimalofo_words(uint64_t answer) {
+    return (size_t)(answer >> 8 & 0xFF);
+}
+
+/* Of vaimalofo_displacement_to, without a refusal: for ADRP the low 12 bits of the target, 0 at the other formats. */
+static inline uint32_t vaimalofo_low12(uint64_t answer) {
+    return (uint32_t)(answer >> 16 & 0xFFF);
+}
+
 /* A move of a value to a register, 1 to 4 words. Order 2, 8. Value: the number of words. */
 uint64_t vaimalofo_move(uint8_t *bytes, size_t length, size_t position, uint64_t value, uint32_t reg);
 
@@ -74,8 +84,9 @@ uint64_t vaimalofo_logical_word(uint8_t *bytes, size_t length, size_t position, 
 uint64_t vaimalofo_displacement(uint8_t *bytes, size_t length, size_t position, uint32_t format, uint32_t base,
                                 int64_t distance);
 
-/* The same from a target and the address of the instruction: target minus address, modulo 2^64 and read as signed; for ADRP the
- * address first loses its low 12 bits. Order 7, 11, 6, 4, 5, 8. Value: the number of words, 1. */
+/* The same from a target and the address of the instruction: target minus address, modulo 2^64 and read as signed; for ADRP both first
+ * lose their low 12 bits, so that it gives the target's page and never 4. Order 7, 11, 6, 4, 5, 8. Value: the number of words, 1, and for
+ * ADRP 256 times the low 12 bits of the target for the ADD that follows: vaimalofo_words and vaimalofo_low12 take them apart. */
 uint64_t vaimalofo_displacement_to(uint8_t *bytes, size_t length, size_t position, uint32_t format, uint32_t base,
                                    uint64_t target, uint64_t address);
 

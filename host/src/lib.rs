@@ -230,19 +230,38 @@ pub fn displacement(
     after(position, ffi::displacement(bytes, position.0, format, base, distance.0))
 }
 
+/// What [`displacement_to`] has written.
+#[derive(Clone, Copy, Debug, PartialEq, Eq, Hash)]
+pub struct Reached {
+    /// The position just past the word.
+    pub position: WordPos,
+    /// For ADRP the low 12 bits of the target, for the ADD that follows; none at the other formats.
+    pub low12: Option<u32>,
+}
+
 /// The same from a target and the address of the instruction: the distance is target minus address, modulo 2^64 and read as signed.
-/// For ADRP the address first loses its low 12 bits, and the target must be on a page.
+/// For ADRP both first lose their low 12 bits, so that the instruction gives the target's page, wherever in it the target lies; the
+/// answer then has the target's low bits.
 ///
 /// # Errors
-/// Those of [`displacement`], in the same order.
+/// Those of [`displacement`], in the same order; for ADRP never [`Refusal::Step`].
 ///
 /// ```
-/// use vaimalofo::{displacement_to, format, words, Refusal, WordPos};
+/// use vaimalofo::{displacement_to, format, words, Reached, Refusal, WordPos};
 ///
-/// let mut code = [0; 4];
-/// assert_eq!(displacement_to(&mut code, WordPos(0), format::ADRP_21, 0x90000000, 0x3000, 0x1234), Ok(WordPos(1)));
-/// assert_eq!(words(&code), [0xD0000000]);
-/// assert_eq!(displacement_to(&mut code, WordPos(0), format::ADRP_21, 0x90000000, 0x3004, 0x1234), Err(Refusal::Step));
+/// // The address 3456 (hex) in register 0: an ADRP at 1234, and behind it an ADD of the low bits, whose base is 91000000.
+/// let mut code = [0; 8];
+/// let adrp = displacement_to(&mut code, WordPos(0), format::ADRP_21, 0x90000000, 0x3456, 0x1234)?;
+/// assert_eq!(adrp, Reached { position: WordPos(1), low12: Some(0x456) });
+/// let add = 0x91000000 | adrp.low12.unwrap_or(0) << 10;
+/// code[4 * adrp.position.0..][..4].copy_from_slice(&u32::to_le_bytes(add));
+/// assert_eq!(words(&code), [0xD0000000, 0x91115800]);
+///
+/// // No other format has low bits.
+/// let branch = displacement_to(&mut code, WordPos(0), format::BRANCH_26, 0x14000000, 0x3456, 0x1232)?;
+/// assert_eq!(branch, Reached { position: WordPos(1), low12: None });
+/// assert_eq!(displacement_to(&mut code, WordPos(0), format::BRANCH_26, 0x14000000, 0x3456, 0x1234), Err(Refusal::Step));
+/// # Ok::<(), Refusal>(())
 /// ```
 #[inline]
 pub fn displacement_to(
@@ -252,8 +271,14 @@ pub fn displacement_to(
     base: u32,
     target: u64,
     address: u64,
-) -> Result<WordPos, Refusal> {
-    after(position, ffi::displacement_to(bytes, position.0, format, base, target, address))
+) -> Result<Reached, Refusal> {
+    let value = answer(ffi::displacement_to(bytes, position.0, format, base, target, address))?;
+    // The words written in the value's low byte, and the low bits above it.
+    let (written, low12) = ((value & 0xFF) as usize, (value >> 8) as u32);
+    Ok(Reached {
+        position: WordPos(position.0 + written),
+        low12: (format == format::ADRP_21).then_some(low12),
+    })
 }
 
 /// Whether a word has the fixed bits of an instruction of a [`mod@format`], whatever its field holds. [`displacement`] and

@@ -35,7 +35,8 @@ static uint32_t word_at(const uint8_t *at) {
 static void wrote(const char *what, const struct watched *w, uint64_t answer, size_t position, size_t count, const uint32_t *words) {
     size_t start = 16 + position * 4;
     same(what, (int64_t)vaimalofo_refusal(answer), 0);
-    same(what, vaimalofo_value(answer), (int64_t)count);
+    same(what, (int64_t)vaimalofo_words(answer), (int64_t)count);
+    same(what, vaimalofo_value(answer), (int64_t)count + 256 * (int64_t)vaimalofo_low12(answer));
     for (size_t i = 0; i < sizeof w->all; i++) {
         if (i < start || i >= start + count * 4) same(what, w->all[i], 0xA5);
     }
@@ -91,7 +92,19 @@ static void displacements(void) {
     wrote("branch", &w, vaimalofo_displacement(w.run, w.length, 1, VAIMALOFO_BRANCH_26, 0x14000000, -4), 1, 1, back);
     watch(&w, 2, 1);
     wrote("page", &w, vaimalofo_displacement_to(w.run, w.length, 0, VAIMALOFO_ADRP_21, 0x90000000, 0x3000, 0x1234), 0, 1, page);
+    for (uint32_t low = 0; low < 4096; low++) {
+        watch(&w, 2, 1);
+        uint64_t answer = vaimalofo_displacement_to(w.run, w.length, 0, VAIMALOFO_ADRP_21, 0x90000000, 0x3000 + low, 0x1FFF - low);
+        wrote("inside a page", &w, answer, 0, 1, page);
+        same("low bits", vaimalofo_low12(answer), low);
+    }
     watch(&w, 2, 1);
+    same("no low bits", (int64_t)vaimalofo_displacement_to(w.run, w.length, 0, VAIMALOFO_ADR_21, 0x10000000, 0x3FFF, 0x3FFF), 256);
+    watch(&w, 2, 1);
+    refused("page 6", &w, vaimalofo_displacement_to(w.run, w.length, 2, 4, 0x90000020, 0x3004, 0), VAIMALOFO_TAKEN);
+    refused("page 5", &w, vaimalofo_displacement_to(w.run, w.length, 2, 4, 0x90000000, 0x100000FFF, 0xFFF), VAIMALOFO_RANGE);
+    refused("page 8", &w, vaimalofo_displacement_to(w.run, w.length, 2, 4, 0x90000000, 0x3004, 0), VAIMALOFO_NO_ROOM);
+    refused("page by distance 4", &w, vaimalofo_displacement(w.run, w.length, 2, 4, 0x90000000, 0x2004), VAIMALOFO_STEP);
     refused("disp 7", &w, vaimalofo_displacement(w.run, w.length, 2, 6, 0xFFFFFFFF, 1), VAIMALOFO_UNKNOWN);
     refused("disp 11", &w, vaimalofo_displacement(w.run, w.length, 2, 0, 0xFFFFFFFF, 1), VAIMALOFO_WRONG_FORM);
     refused("disp 6", &w, vaimalofo_displacement(w.run, w.length, 2, 0, 0x14000001, 1), VAIMALOFO_TAKEN);

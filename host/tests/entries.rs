@@ -2,7 +2,8 @@
 
 use vaimalofo::{
     displacement, displacement_to, format, has_form, logical_fields, logical_word, mov, operation,
-    patchable_mov, read_displacement, words, ByteDistance, Fields, Logical, Refusal, WordPos,
+    patchable_mov, read_displacement, words, ByteDistance, Fields, Logical, Reached, Refusal,
+    WordPos,
 };
 
 /// What every byte of a run holds before a call.
@@ -48,6 +49,20 @@ fn refused(refusal: Refusal, write: impl Fn(&mut [u8], WordPos) -> Result<WordPo
             assert_eq!(run, before);
         }
     }
+}
+
+/// [`displacement_to`] for the helpers above: the position, where the low bits are the target's for ADRP and none elsewhere.
+fn to(
+    run: &mut [u8],
+    at: WordPos,
+    format: u32,
+    base: u32,
+    target: u64,
+    address: u64,
+) -> Result<WordPos, Refusal> {
+    let Reached { position, low12 } = displacement_to(run, at, format, base, target, address)?;
+    assert_eq!(low12, (format == format::ADRP_21).then_some(target as u32 & 0xFFF));
+    Ok(position)
 }
 
 #[test]
@@ -150,12 +165,12 @@ fn displacements() {
     at_every_place(&[0x30000020], |run, at| {
         displacement(run, at, format::ADR_21, 0x10000000, ByteDistance(5))
     });
-    at_every_place(&[0x58000040], |run, at| {
-        displacement_to(run, at, format::LDR_19, 0x58000000, 8, 0)
-    });
-    at_every_place(&[0xD0000000], |run, at| {
-        displacement_to(run, at, format::ADRP_21, 0x90000000, 0x3000, 0x1234)
-    });
+    at_every_place(&[0x58000040], |run, at| to(run, at, format::LDR_19, 0x58000000, 8, 0));
+    for target in [0x3000, 0x3004, 0x3FFF] {
+        at_every_place(&[0xD0000000], |run, at| {
+            to(run, at, format::ADRP_21, 0x90000000, target, 0x1234)
+        });
+    }
     for (format, base, step, least, greatest) in FORMATS {
         for distance in [least, least + step, -step, 0, step, greatest - step, greatest] {
             let mut run = [0; 4];
@@ -164,7 +179,7 @@ fn displacements() {
             for address in [0, 0x7FFF_FFFF_FFFF_F000, 0xFFFF_FFFF_FFFF_F000] {
                 let mut again = [0; 4];
                 let target = u64::wrapping_add_signed(address, distance);
-                displacement_to(&mut again, WordPos(0), format, base, target, address).unwrap();
+                to(&mut again, WordPos(0), format, base, target, address).unwrap();
                 assert_eq!(again, run);
             }
         }
@@ -172,33 +187,56 @@ fn displacements() {
             refused(Refusal::Range, |run, at| {
                 displacement(run, at, format, base, ByteDistance(distance))
             });
-            refused(Refusal::Range, |run, at| {
-                displacement_to(run, at, format, base, distance as u64, 0)
-            });
+            refused(Refusal::Range, |run, at| to(run, at, format, base, distance as u64, 0));
         }
         if step > 1 {
             for distance in [1, step - 1, greatest + 1, i64::MAX] {
                 refused(Refusal::Step, |run, at| {
                     displacement(run, at, format, base, ByteDistance(distance))
                 });
-                refused(Refusal::Step, |run, at| {
-                    displacement_to(run, at, format, base, distance as u64, 0)
-                });
+                if format != format::ADRP_21 {
+                    refused(Refusal::Step, |run, at| to(run, at, format, base, distance as u64, 0));
+                }
             }
         }
         let taken = base + if format == format::BRANCH_26 { 1 } else { 1 << 5 };
         refused(Refusal::Taken, |run, at| {
             displacement(run, at, format, taken, ByteDistance(i64::MAX))
         });
-        refused(Refusal::Taken, |run, at| displacement_to(run, at, format, taken, u64::MAX, 0));
+        refused(Refusal::Taken, |run, at| to(run, at, format, taken, u64::MAX, 0));
     }
     for format in [6, 7, u32::MAX] {
         refused(Refusal::Unknown, |run, at| {
             displacement(run, at, format, u32::MAX, ByteDistance(1))
         });
-        refused(Refusal::Unknown, |run, at| displacement_to(run, at, format, u32::MAX, 1, 0));
+        refused(Refusal::Unknown, |run, at| to(run, at, format, u32::MAX, 1, 0));
         assert_eq!(read_displacement(0, format), Err(Refusal::Unknown));
         assert_eq!(has_form(format, 0x14000000), Err(Refusal::Unknown));
+    }
+}
+
+/// An ADRP to every place of a page, at both ends of the range: the word of the page, and the place; a page farther, 5.
+#[test]
+fn an_adrp_goes_to_any_target() {
+    let ends = [(-4294967296, -4096), (4294963200, 4096), (0, 0)];
+    for (address, (end, more)) in
+        [0x1000, 0x1FFF, 1 << 63, u64::MAX].into_iter().zip(ends.into_iter().cycle())
+    {
+        let page = u64::wrapping_add_signed(address & !0xFFF, end);
+        let mut expected = [0; 4];
+        displacement(&mut expected, WordPos(0), format::ADRP_21, 0x9000001E, ByteDistance(end))
+            .unwrap();
+        for low in 0..4096 {
+            let mut run = [0; 4];
+            to(&mut run, WordPos(0), format::ADRP_21, 0x9000001E, page + low, address).unwrap();
+            assert_eq!(run, expected);
+        }
+        for low in [0, 1, 0xFFF].into_iter().filter(|_| more != 0) {
+            let beyond = u64::wrapping_add_signed(page, more) + low;
+            refused(Refusal::Range, |run, at| {
+                to(run, at, format::ADRP_21, 0x9000001E, beyond, address)
+            });
+        }
     }
 }
 
@@ -222,9 +260,7 @@ fn an_instruction_is_a_base_at_its_own_format_only() {
                     refused(Refusal::WrongForm, |run, at| {
                         displacement(run, at, format, base, ByteDistance(i64::MAX))
                     });
-                    refused(Refusal::WrongForm, |run, at| {
-                        displacement_to(run, at, format, base, u64::MAX, 0)
-                    });
+                    refused(Refusal::WrongForm, |run, at| to(run, at, format, base, u64::MAX, 0));
                 }
             }
             at_every_place(&[base], |run, at| displacement(run, at, own, base, ByteDistance(0)));

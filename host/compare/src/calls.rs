@@ -3,7 +3,7 @@
 use oracle::replay::answer::{Answer, Said};
 use oracle::replay::request::{entry::*, Request};
 use oracle::replay::{settle, Settled};
-use vaimalofo::{ByteDistance, Logical, Refusal, WordPos};
+use vaimalofo::{ByteDistance, Logical, Reached, Refusal, WordPos};
 
 use crate::tally::Tally;
 
@@ -57,6 +57,12 @@ fn wrote(answer: Result<WordPos, Refusal>, watched: &mut Watched) -> Result<Answ
     Ok(Answer { said, run })
 }
 
+/// The same of a target, with the low bits behind the position.
+fn reached(answer: Result<Reached, Refusal>, watched: &mut Watched) -> Result<Answer, String> {
+    let low = answer.ok().and_then(|reached| reached.low12).map(u64::from);
+    Ok(wrote(answer.map(|reached| reached.position), watched)?.carrying(low))
+}
+
 fn numbers(answer: Result<Vec<u64>, Refusal>) -> Answer {
     match answer {
         Ok(numbers) => Answer::numbers(&numbers),
@@ -100,7 +106,7 @@ fn asked(r: &Request, tail: usize) -> Result<Answer, String> {
         DISP_TARGET => {
             let mut w = run(4);
             let answer = vaimalofo::displacement_to(w.run(), at(f), a as u32, b as u32, c, d);
-            wrote(answer, &mut w)
+            reached(answer, &mut w)
         }
         READ_DISP => Ok(match vaimalofo::read_displacement(a as u32, b as u32) {
             Ok(distance) => Answer::wide(distance.0 as u64),

@@ -1,4 +1,4 @@
-//! Outside judges: words that the C entries give, handed over a pipe to scripts that ask GNU as, objdump and qemu-aarch64.
+//! Outside judges: words that the C entries give, handed over a pipe to scripts that ask GNU as and ld, objdump and qemu-aarch64.
 
 use std::fmt::Write as _;
 use std::io::{ErrorKind, Write};
@@ -8,7 +8,7 @@ use std::process::{Command, Stdio};
 use oracle::document::displacements::FORMATS;
 use oracle::document::logical::masks;
 use oracle::lists::random::Random;
-use vaimalofo::{ByteDistance, Logical, Refusal, WordPos};
+use vaimalofo::{ByteDistance, Logical, Reached, Refusal, WordPos};
 
 use crate::parts::own_base;
 use crate::values;
@@ -25,9 +25,10 @@ pub fn run(samples: usize) -> bool {
     let logical =
         judged("logical_as.py", "logical words, by GNU as and objdump", &logical(samples));
     let near = judged("displacements_as.py", "displacements, by GNU as", &displacements(samples));
+    let paged = judged("pages_ld.py", "ADRPs with their low bits, by GNU ld", &pages(samples));
     let formed =
         judged("forms_objdump.py", "words at all formats, by objdump", &forms(samples * FORMS));
-    moved && logical && near && formed
+    moved && logical && near && paged && formed
 }
 
 /// One judge's verdict on the lines, batch by batch. A missing tool or script is said and is no failure.
@@ -143,6 +144,36 @@ fn displaced(random: &mut Random, format: usize, distance: i64) -> String {
     vaimalofo::displacement(&mut run, WordPos(0), format as u32, base, at)
         .expect("the distance is in range and the field is clear");
     format!("{format} {base:08x} {distance} {:08x}\n", vaimalofo::words(&run)[0])
+}
+
+/// `ADDRESS BASE TARGET WORD LOW`, or `far`: ADRPs between any two pages, in range and now and then up to 16 pages beyond it, at any
+/// place in them.
+fn pages(samples: usize) -> Vec<String> {
+    let mut random = Random::new(10 << 48);
+    (0..samples).map(|_| paged(&mut random)).collect()
+}
+
+fn paged(random: &mut Random) -> String {
+    let row = &FORMATS[4];
+    let pages = ((row.greatest - row.least) / row.step) as u64 + 1;
+    let steps = match random.below(16) {
+        0 => random.below(32).wrapping_sub(16),
+        1 => pages - 16 + random.below(32),
+        _ => random.below(pages),
+    };
+    let address = random.value() >> random.one_of(&[0, 0, 32, 44]) & !3;
+    let least = (address & !0xFFF).wrapping_add_signed(row.least);
+    let target = least.wrapping_add(steps.wrapping_mul(row.step as u64)) + random.below(4096);
+    let base = own_base(4, random);
+    let mut run = [0; 4];
+    let said = match vaimalofo::displacement_to(&mut run, WordPos(0), 4, base, target, address) {
+        Ok(Reached { low12: Some(low), .. }) => {
+            format!("{:08x} {low}", vaimalofo::words(&run)[0])
+        }
+        Err(Refusal::Range) => "far".to_string(),
+        other => format!("{other:?}"),
+    };
+    format!("{address:x} {base:08x} {target:x} {said}\n")
 }
 
 /// `WORD ASKED SAID`: the formats asked, all of them, and those whose form the word was said to have.

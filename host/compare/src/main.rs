@@ -14,7 +14,7 @@ compare --full             everything: all 2^32 values, all distances, 100 milli
   --slice K/N              of --full only the items that leave K when divided by N (N odd)
   --only NAME              one part: fields, moves, bases, displacements, mixed, damaged
   --threads T              (else as many as there are processors)
-compare --judges [N]       N samples of each kind for GNU as, objdump and qemu-aarch64 (else 20000)";
+compare --judges [N]       N samples of each kind for GNU as and ld, objdump and qemu-aarch64 (else 20000)";
 
 struct Options {
     full: bool,
@@ -88,6 +88,7 @@ fn what_the_rust_does(class: Class) -> &'static str {
         Class::LdrSplit => "splits the field of LDR 19 as for ADR",
         Class::TargetFromFour => "counts targets from four bytes on",
         Class::TargetOverflow => "overflows at a target too far for 64 signed bits",
+        Class::PageTarget => "refuses an ADRP to a target inside a page",
         Class::WrongForm => "places a distance in any base, or refuses one off the step",
         Class::Added => "has no such entry, or cannot be asked this (no room, for one)",
         _ => "differs in a class that no C entry has",

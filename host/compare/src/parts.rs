@@ -260,8 +260,10 @@ fn check_distance(format: usize, distance: i64, random: &mut Random, tally: &mut
     compare(&Request::new(DISP_IMM, &[number, base, distance as u64, 2, 1]), tail, tally);
     // The Rust's buffer has an offset of 32 bits; a higher address is compared with document 01 alone.
     let address = random.value() >> random.one_of(&[0, 32, 44]);
-    let origin = if format == 4 { address & !0xFFF } else { address };
-    let target = origin.wrapping_add_signed(distance);
+    // An ADRP goes to any place of a page.
+    let place = if format == 4 { random.below(2) * random.below(1024) } else { 0 };
+    let origin = displacements::page(number as u32, address);
+    let target = origin.wrapping_add_signed(distance).wrapping_add(place);
     compare(&Request::new(DISP_TARGET, &[number, base, target, address, 1, 0]), tail, tally);
     let mut run = [0; 4];
     let at = ByteDistance(distance);
