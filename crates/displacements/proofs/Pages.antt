@@ -1,5 +1,6 @@
 -- ADRP to any target: what document 02's request f asks of the target entry at format 4. Assumes nothing.
-use mathlib.Core.Path.{_≡_, subst}
+use mathlib.Core.Path.{_≡_, sym, subst, _∙_}
+use mathlib.Core.Logic.{_↔_}
 use mathlib.Core.List.{List, [], _∷_}
 use mathlib.Core.Option.{some}
 use Prim.Native.Nat.{ℕ, _+_, _-_, _%_, _^_, _<_}
@@ -20,7 +21,7 @@ use Rattle.displacements.specs.Says.{Based, Free, OnStep, InRange, word}
 use Rattle.displacements.proofs.Distances.{bits-steps}
 use Rattle.displacements.proofs.Answers.{answers}
 use Rattle.displacements.proofs.Targets.{carrying-parts, carried-parts, low-four}
-use Rattle.displacements.proofs.Demands.{exactly-4, arrives, bits-between, emitted}
+use Rattle.displacements.proofs.Demands.{exactly-4, exactly-5, elsewhere, arrives, bits-between, emitted}
 
 -- the distance of a target's page from an address's
 abbrev pub pages : (t a : ℕ) → ℤ
@@ -38,9 +39,15 @@ module _ (b t a : ℕ) where
   pub never-4 : targetSaid 4 b t a ≡ no 4 → ⊥
   never-4 e = exactly-4 4 b (pages t a) .0 e .2 page-on-step
 
-  -- a base of its own is given its word exactly where the pages are in range, wherever in its page the target lies
+  -- a base of its own gets its word where the pages are in range, wherever in its page the target lies
   pub page-word : Based 4 b → Free (formOf 4) b → InRange (formOf 4) (pages t a) → targetSaid 4 b t a ≡ ok (putIn (formOf 4) b (stepsOf (formOf 4) (pages t a)) ∷ [])
   page-word h f r = answers 4 b (pages t a) (word h f page-on-step r)
+
+  -- and 5 where they are not
+  pub page-far : (targetSaid 4 b t a ≡ no 5) ↔ (Based 4 b × Free (formOf 4) b × (InRange (formOf 4) (pages t a) → ⊥))
+  page-far =
+      let e = exactly-5 4 b (pages t a) in
+      (λ q. let k = e .0 q in (k .0, k .1, k .3), λ h. e .1 (h .0, h .1, page-on-step, h .2))
 
   -- only the target's page decides
   pub page-alone : targetSaid 4 b t a ≡ targetSaid 4 b (pageOf 4 t) a
@@ -49,6 +56,12 @@ module _ (b t a : ℕ) where
   -- a target on a page gets what it got before
   pub on-page : t % 4096 ≡ 0 → targetSaid 4 b t a ≡ dispSaid 4 b (between t (pageOf 4 a))
   on-page e = let p : pageOf 4 t ≡ t = omega arith in rw p
+
+-- at another format the target entry gives 4 where target minus address is off the step
+pub other-4 : (n b t a : ℕ) → (n ≡ 4 → ⊥) → (targetSaid n b t a ≡ no 4) ↔ (Based n b × Free (formOf n) b × (OnStep (formOf n) (between t a) → ⊥))
+other-4 n b t a h =
+    let e = exactly-4 n b (between t a) in
+    (λ q. e .0 (sym (elsewhere n b t a h) ∙ q), λ k. elsewhere n b t a h ∙ e .1 k)
 
 -- "with the distance entry it still does"
 pub distance-4 : (b : ℕ) (d : ℤ) → Based 4 b → Free (formOf 4) b → (natAbs d % 4096 ≡ 0 → ⊥) → dispSaid 4 b d ≡ no 4

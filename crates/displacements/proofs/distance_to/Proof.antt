@@ -6,7 +6,6 @@ use borrow.Author.Needs.{needs}
 use mir.Facts.{toZ-ofZ}
 use mir.Syntax.{w64}
 use mir.Val.{toZ}
-use Rattle.displacements.specs.Answer.{pageOf}
 use Rattle.displacements.proofs.distance_to.Statement.{statement}
 use Rattle.displacements.proofs.distance_to.Tie as tie
 
