@@ -139,7 +139,7 @@ fn page(format: u32, address: u64) -> u64
     }
 }
 
-// The target minus the address, modulo 2^64, read as signed.
+// The target minus the address, each as the format takes it, modulo 2^64, read as signed.
 fn distance_to(format: u32, target: u64, address: u64) -> ByteDistance
     ensures { λ r. ⌜ r .0 ≡ between (pageOf format target) (pageOf format address) ⌝ }
 {
@@ -153,7 +153,8 @@ fn low_12(target: u64) -> Low12
     Low12((target % 4096) as u32)
 }
 
-// The same from a target and the address of the instruction: 7, 11, 6, 4, 5. An ADRP never gives 4, and its answer has the target's low bits.
+// The word of a base, a target and the address of the instruction, by value: 7, 11, 6, 4, 5. An ADRP never gives 4, and its answer has the target's
+// low bits.
 pub fn disp_target_word(format: u32, base: Opc, target: u64, address: u64) -> TargetWord
     ensures { λ r. ⌜ wordSaid r ≡ carrying (lowOf format target) (packed (targetSaid format (base .0) target address)) ⌝ }
 {
@@ -202,7 +203,8 @@ fn wrote_page(w: Written, low: Low12) -> TargetWritten
     }
 }
 
-// The same from a target and the address of the instruction: 7, 11, 6, 4, 5, 8. An ADRP never gives 4, and its answer has the target's low bits.
+// The word of a base, a target and the address of the instruction at a position: 7, 11, 6, 4, 5, 8. An ADRP never gives 4, and its answer has the
+// target's low bits.
 pub fn emit_disp_target(
     words: &mut [u32],
     at: WordPos,
