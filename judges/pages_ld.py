@@ -24,8 +24,11 @@ def parse(line):
     parts = line.split()
     try:
         address, base, target = (int(part, 16) for part in parts[:3])
-        said = None if parts[3:] == ["far"] else (int(parts[3], 16), int(parts[4]))
-    except (ValueError, IndexError):
+        said = None
+        if parts[3:] != ["far"]:
+            word, low = parts[3:]
+            said = int(word, 16), int(low)
+    except ValueError:
         return None, "not ADDRESS_HEX BASE_HEX TARGET_HEX WORD_HEX LOW_DECIMAL, or far in place of the last two"
     if base & ~31 != 0x90000000 or address % 4:
         return None, "the base is no ADRP with an empty field, or no instruction stands at the address"

@@ -5,7 +5,7 @@ use std::io::{ErrorKind, Write};
 use std::path::Path;
 use std::process::{Command, Stdio};
 
-use oracle::document::displacements::FORMATS;
+use oracle::document::displacements::{page, FORMATS};
 use oracle::document::logical::masks;
 use oracle::lists::random::Random;
 use vaimalofo::{ByteDistance, Logical, Reached, Refusal, WordPos};
@@ -162,7 +162,7 @@ fn paged(random: &mut Random) -> String {
         _ => random.below(pages),
     };
     let address = random.value() >> random.one_of(&[0, 0, 32, 44]) & !3;
-    let least = (address & !0xFFF).wrapping_add_signed(row.least);
+    let least = page(4, address).wrapping_add_signed(row.least);
     let target = least.wrapping_add(steps.wrapping_mul(row.step as u64)) + random.below(4096);
     let base = own_base(4, random);
     let mut run = [0; 4];
