@@ -27,27 +27,27 @@ use Rattle.displacements.proofs.Demands.{exactly-4, exactly-5, elsewher
 abbrev pub pages : (t a : ℕ) → ℤ
 pages t a = between (pageOf 4 t) (pageOf 4 a)
 
-module _ (b t a : ℕ) where
-  -- two pages are always on the step
-  pub page-on-step : OnStep (formOf 4) (pages t a)
-  page-on-step =
-      let bits = pageOf 4 t + (2 ^ 64 - pageOf 4 a) in
-      let low : bits % 2 ^ 64 % 2 ^ 12 ≡ 0 = omega arith in
-      bits-steps 12 (omega arith) (pages t a) (sfits-toZ {w = w64} (record { fits = mod-lt bits (pow-pos 64) })) (rw (bits-between (pageOf 4 t) (pageOf 4 a)) low)
+-- two pages are always on the step
+pub page-on-step : (t a : ℕ) → OnStep (formOf 4) (pages t a)
+page-on-step t a =
+    let bits = pageOf 4 t + (2 ^ 64 - pageOf 4 a) in
+    let low : bits % 2 ^ 64 % 2 ^ 12 ≡ 0 = omega arith in
+    bits-steps 12 (omega arith) (pages t a) (sfits-toZ {w = w64} (record { fits = mod-lt bits (pow-pos 64) })) (rw (bits-between (pageOf 4 t) (pageOf 4 a)) low)
 
+module _ (b t a : ℕ) where
   -- "With the target entry format 4 no longer gives refusal 4"
   pub never-4 : targetSaid 4 b t a ≡ no 4 → ⊥
-  never-4 e = exactly-4 4 b (pages t a) .0 e .2 page-on-step
+  never-4 e = exactly-4 4 b (pages t a) .0 e .2 (page-on-step t a)
 
   -- a base of its own gets its word where the pages are in range, wherever in its page the target lies
   pub page-word : Based 4 b → Free (formOf 4) b → InRange (formOf 4) (pages t a) → targetSaid 4 b t a ≡ ok (putIn (formOf 4) b (stepsOf (formOf 4) (pages t a)) ∷ [])
-  page-word h f r = answers 4 b (pages t a) (word h f page-on-step r)
+  page-word h f r = answers 4 b (pages t a) (word h f (page-on-step t a) r)
 
   -- and 5 where they are not
   pub page-far : (targetSaid 4 b t a ≡ no 5) ↔ (Based 4 b × Free (formOf 4) b × (InRange (formOf 4) (pages t a) → ⊥))
   page-far =
       let e = exactly-5 4 b (pages t a) in
-      (λ q. let k = e .0 q in (k .0, k .1, k .3), λ h. e .1 (h .0, h .1, page-on-step, h .2))
+      (λ q. let k = e .0 q in (k .0, k .1, k .3), λ h. e .1 (h .0, h .1, page-on-step t a, h .2))
 
   -- only the target's page decides
   pub page-alone : targetSaid 4 b t a ≡ targetSaid 4 b (pageOf 4 t) a
