@@ -1,6 +1,6 @@
 #!/usr/bin/env python3
-"""stored.py moves|displacements|pages|forms: what the stored answers have written, or have said of forms, in the form that moves_qemu.py,
-displacements_as.py, pages_ld.py and forms_objdump.py read.
+"""stored.py moves|displacements|targets|forms: what the stored answers have written, or have said of forms, in the form that moves_qemu.py,
+displacements_as.py, targets_ld.py and forms_objdump.py read.
 
 The stored requests and answers (crates/replay, crates/differences) are what the gate sees the proved programs print, so a judge of them
 judges the programs."""
@@ -8,15 +8,15 @@ import struct
 import sys
 
 # For an entry that writes: the argument that gives the words of its run, and the one that gives the position.
-WRITES = {18: (0, 1), 19: (0, 1), 49: (5, 6), 80: (2, 3), 96: (3, 4), 112: (3, 4), 113: (4, 5)}
+WRITES = {18: (0, 1), 19: (0, 1), 49: (5, 6), 80: (2, 3), 96: (3, 4), 112: (3, 4), 113: (3, 4)}
 MOVE, PATCHABLE, DISTANCE, TARGET, HAS_FORM = 80, 96, 112, 113, 115
 
 
 def answered(pair):
     """Each request with its answer line and the words of its run."""
     with open(f"crates/{pair}/stdin", "rb") as requests, open(f"crates/{pair}/stdout", encoding="ascii") as answers:
-        while request := requests.read(64):
-            entry, *arguments = struct.unpack("<8Q", request)
+        while request := requests.read(72):
+            entry, *arguments = struct.unpack("<9Q", request)
             answer = next(answers).split()
             words = []
             if entry in WRITES:
@@ -54,24 +54,25 @@ def displacements():
             print(form % 2 ** 32, f"{base % 2 ** 32:x}", bits - 2 ** 64 if bits >> 63 else bits, *words)
 
 
-def pages():
-    """The ADRPs to targets, from addresses where an instruction can stand: the word and the low bits, or that the page is too far."""
+def targets():
+    """What was written to targets, from the address that base address and position give: the word, behind an ADRP the low bits; or that the
+    target is too far."""
     for entry, arguments, answer, words in all_answered():
-        form, base, target, address, _, position = arguments[:6]
-        if entry == TARGET and form % 2 ** 32 == 4 and address % 4 == 0:
-            asked = f"{address:x} {base % 2 ** 32:x} {target:x}"
+        if entry == TARGET:
+            _, word, target, _, position, base = arguments[:6]
+            asked = f"{(base + 4 * position) % 2 ** 64:x} {word % 2 ** 32:x} {target:x}"
             if answer[0] == "ok":
-                print(asked, words[position], answer[2])
+                print(asked, words[position], *answer[2:])
             elif answer == ["no", "5"]:
                 print(asked, "far")
 
 
 def forms():
-    """A base that gets 11 has not the form; one that gets anything else has it, but for 7, which is told before."""
+    """A base that gets 11 has not the form; one that gets anything else has it, but for 15 and 7, which are told before."""
     for entry, (form, word, *_), answer, _ in all_answered():
-        if entry in (DISTANCE, TARGET, HAS_FORM) and answer != ["no", "7"]:
+        if entry in (DISTANCE, TARGET, HAS_FORM) and answer not in (["no", "15"], ["no", "7"]):
             lacking = ["ok", "0"] if entry == HAS_FORM else ["no", "11"]
             print(f"{word % 2 ** 32:x}", form % 2 ** 32, "-" if answer == lacking else form % 2 ** 32)
 
 
-{"moves": moves, "displacements": displacements, "pages": pages, "forms": forms}[sys.argv[1]]()
+{"moves": moves, "displacements": displacements, "targets": targets, "forms": forms}[sys.argv[1]]()

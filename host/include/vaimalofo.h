@@ -4,6 +4,9 @@
  * A run is a pointer to bytes and their number. The pointer is not NULL, also where the number is 0, and during a call nothing else
  * uses the bytes. In a run a word is four bytes, low byte first, and a tail under four bytes is no room. A position counts words.
  *
+ * A base address is the address of the run's first word where the code will run, a multiple of 4; the bytes need not be there now. The
+ * word at a position has the address base address + 4 * position, modulo 2^64 (vaimalofo_address).
+ *
  * Every entry answers one 64-bit number. Its low byte is a refusal's number, 0 where nothing was refused; the bits above it, read as
  * signed, are the value, 0 with a refusal. Any numbers may be asked. With a refusal no byte of the run has changed; else the words
  * asked for stand from the position on, and every other byte is as before.
@@ -28,7 +31,8 @@ enum {
     VAIMALOFO_TAKEN = 6,    /* the base word already has a bit set in the field */
     VAIMALOFO_UNKNOWN = 7,  /* an unknown format or operation number */
     VAIMALOFO_NO_ROOM = 8,  /* the words do not fit from the position on, or the position lies past the end */
-    VAIMALOFO_WRONG_FORM = 11 /* the base word is not an instruction of this format */
+    VAIMALOFO_WRONG_FORM = 11, /* the base word is not an instruction of this format */
+    VAIMALOFO_UNALIGNED = 15   /* the base address is not a multiple of 4 */
 };
 
 /* Displacement formats. */
@@ -55,6 +59,11 @@ static inline int64_t vaimalofo_value(uint64_t answer) {
     return above < (UINT64_C(1) << 55) ? (int64_t)above : -(int64_t)((UINT64_C(1) << 56) - above);
 }
 
+/* The address of the word at a position of a run. */
+static inline uint64_t vaimalofo_address(uint64_t base_address, size_t position) {
+    return base_address + 4 * (uint64_t)position;
+}
+
 /* Of an entry that writes, without a refusal: how many words it has written. */
 static inline size_t vaimalofo_words(uint64_t answer) {
     return (size_t)(answer >> 8 & 0xFF);
@@ -65,30 +74,34 @@ static inline uint32_t vaimalofo_low12(uint64_t answer) {
     return (uint32_t)(answer >> 16 & 0xFFF);
 }
 
-/* A move of a value to a register, 1 to 4 words. Order 2, 8. Value: the number of words. */
-uint64_t vaimalofo_move(uint8_t *bytes, size_t length, size_t position, uint64_t value, uint32_t reg);
+/* A move of a value to a register, 1 to 4 words. Order 15, 2, 8. Value: the number of words. */
+uint64_t vaimalofo_move(uint8_t *bytes, size_t length, uint64_t base_address, size_t position, uint64_t value,
+                        uint32_t reg);
 
-/* A move that can be patched: four words at size 64, two at 32, of the low 32 bits. Order 1, 2, 8. Value: the number of words. */
-uint64_t vaimalofo_patchable_move(uint8_t *bytes, size_t length, size_t position, uint64_t value, uint32_t size,
-                                  uint32_t reg);
+/* A move that can be patched: four words at size 64, two at 32, of the low 32 bits. Order 15, 1, 2, 8. Value: the number of words. */
+uint64_t vaimalofo_patchable_move(uint8_t *bytes, size_t length, uint64_t base_address, size_t position, uint64_t value,
+                                  uint32_t size, uint32_t reg);
 
 /* The fields of a logical immediate at width 32 or 64. Order 1, 3. Value: N * 65536 + S * 256 + R. */
 uint64_t vaimalofo_logical_fields(uint64_t value, uint32_t width);
 
-/* AND, ORR, EOR or ANDS with an immediate. Order 7, 1, 2, 3, 8. Value: the number of words, 1. */
-uint64_t vaimalofo_logical_word(uint8_t *bytes, size_t length, size_t position, uint32_t operation, uint64_t value,
-                                uint32_t width, uint32_t rn, uint32_t rd);
+/* AND, ORR, EOR or ANDS with an immediate. Order 15, 7, 1, 2, 3, 8. Value: the number of words, 1. */
+uint64_t vaimalofo_logical_word(uint8_t *bytes, size_t length, uint64_t base_address, size_t position,
+                                uint32_t operation, uint64_t value, uint32_t width, uint32_t rn, uint32_t rd);
 
 /* A base word with a distance in bytes in the field of a format. The base is an instruction of the format, and its field is clear.
- * Order 7, 11, 6, 4, 5, 8. Value: the number of words, 1. */
-uint64_t vaimalofo_displacement(uint8_t *bytes, size_t length, size_t position, uint32_t format, uint32_t base,
-                                int64_t distance);
+ * Order 15, 7, 11, 6, 4, 5, 8. Value: the number of words, 1. */
+uint64_t vaimalofo_displacement(uint8_t *bytes, size_t length, uint64_t base_address, size_t position, uint32_t format,
+                                uint32_t base, int64_t distance);
 
-/* The same from a target and the address of the instruction: target minus address, modulo 2^64 and read as signed; for ADRP both first
- * lose their low 12 bits, so that it gives the target's page and never 4. Order 7, 11, 6, 4, 5, 8. Value: the number of words, 1, and for
- * ADRP 256 times the low 12 bits of the target for the ADD that follows: vaimalofo_words and vaimalofo_low12 take them apart. */
-uint64_t vaimalofo_displacement_to(uint8_t *bytes, size_t length, size_t position, uint32_t format, uint32_t base,
-                                   uint64_t target, uint64_t address);
+/* The same to a target: the distance is target minus the address of the instruction, vaimalofo_address(base_address, position), modulo 2^64
+ * and read as signed; for ADRP both first lose their low 12 bits, so that it gives the target's page and never 4. Order 15, 7, 11, 6, 4, 5,
+ * 8. Value: the number of words, 1, and for ADRP 256 times the low 12 bits of the target for the ADD that follows: vaimalofo_words and
+ * vaimalofo_low12 take them apart.
+ * WARNING: before it took a base address it had as many arguments, in another order and meaning: (bytes, length, position, format, base,
+ * target, address). A call written for those still compiles, and asks for something else; the address at its end is gone. */
+uint64_t vaimalofo_displacement_to(uint8_t *bytes, size_t length, uint64_t base_address, size_t position,
+                                   uint32_t format, uint32_t base, uint64_t target);
 
 /* Whether a word has the fixed bits of an instruction of a format, whatever its field holds. Order 7. Value: 1 or 0. */
 uint64_t vaimalofo_has_form(uint32_t format, uint32_t word);

@@ -4,17 +4,21 @@
 //! Every function calls an entry of a static library in which each function is proved to meet its contract; this package is the safe
 //! Rust around it. An answer is a value or a [`Refusal`], whatever the numbers are, and a refusal leaves every lent byte as it was.
 //!
-//! Words go to a lent run of bytes: a word is four bytes, low byte first, and a tail under four bytes is no room. A [`WordPos`] counts
-//! words in it, and a function that writes answers the position just past its last word, from which the next one can go on:
+//! Words go to a lent run of bytes: a word is four bytes, low byte first, and a tail under four bytes is no room. A [`Place`] says where
+//! in the run and at which address, and a function that writes answers the place just past its last word, from which the next one can
+//! go on:
 //!
 //! ```
-//! use vaimalofo::{displacement, format, mov, ByteDistance, WordPos};
+//! use vaimalofo::{displacement_to, format, mov, Address, Place};
 //!
 //! let mut code = [0; 16];
-//! let at = mov(&mut code, WordPos(0), 0x12345678, 0)?;
-//! let at = displacement(&mut code, at, format::BRANCH_26, 0x14000000, ByteDistance(-8))?;
-//! assert_eq!(at, WordPos(3));
-//! assert_eq!(vaimalofo::words(&code[..12]), [0xD28ACF00, 0xF2A24680, 0x17FFFFFE]);
+//! let start = Place::at(Address(0x1000));
+//! let at = mov(&mut code, start, 0x12345678, 0)?;
+//! assert_eq!(at.address(), Address(0x1008));
+//! // A branch back to the start.
+//! let end = displacement_to(&mut code, at, format::BRANCH_26, 0x14000000, start.address())?.place;
+//! assert_eq!(end.address(), Address(0x100C));
+//! assert_eq!(vaimalofo::words(&code)[..end.position.0], [0xD28ACF00, 0xF2A24680, 0x17FFFFFE]);
 //! # Ok::<(), vaimalofo::Refusal>(())
 //! ```
 
@@ -27,13 +31,57 @@ mod refusal;
 
 pub use refusal::Refusal;
 
-/// A place in a run, counted in words of four bytes.
+/// A position in a run, counted in words of four bytes.
 #[derive(Clone, Copy, Debug, PartialEq, Eq, PartialOrd, Ord, Hash)]
 pub struct WordPos(pub usize);
+
+/// An address in bytes, of where the code will run; the lent bytes need not be there.
+#[derive(Clone, Copy, Debug, PartialEq, Eq, PartialOrd, Ord, Hash)]
+pub struct Address(pub u64);
 
 /// A signed distance in bytes.
 #[derive(Clone, Copy, Debug, PartialEq, Eq, PartialOrd, Ord, Hash)]
 pub struct ByteDistance(pub i64);
+
+/// A place in code: the address of the run's first word, and the position in the run. A function that writes takes a base address that
+/// is a multiple of 4, and answers [`Refusal::Unaligned`] before all else to another.
+///
+/// ```
+/// use vaimalofo::{Address, Place, WordPos};
+///
+/// let third = Place { base: Address(0x1000), position: WordPos(2) };
+/// assert_eq!(third.address(), Address(0x1008));
+/// // Addresses count modulo 2^64.
+/// let past_the_last = Place { base: Address(0xFFFFFFFFFFFFFFFC), position: WordPos(1) };
+/// assert_eq!(past_the_last.address(), Address(0));
+/// ```
+#[derive(Clone, Copy, Debug, PartialEq, Eq, PartialOrd, Ord, Hash)]
+pub struct Place {
+    /// The address of the run's first word.
+    pub base: Address,
+    /// Where in the run.
+    pub position: WordPos,
+}
+
+impl Place {
+    /// The first word of a run that has this address.
+    #[inline]
+    pub const fn at(base: Address) -> Place {
+        Place { base, position: WordPos(0) }
+    }
+
+    /// The address of the word here: the base and four times the position, modulo 2^64.
+    #[inline]
+    pub const fn address(self) -> Address {
+        Address(self.base.0.wrapping_add((self.position.0 as u64).wrapping_mul(4)))
+    }
+
+    /// As many words further on in the same run.
+    #[inline]
+    const fn past(self, words: usize) -> Place {
+        Place { base: self.base, position: WordPos(self.position.0 + words) }
+    }
+}
 
 /// The fields N, S and R of a logical immediate.
 #[derive(Clone, Copy, Debug, PartialEq, Eq, Hash)]
@@ -85,61 +133,64 @@ fn answer(number: u64) -> Result<i64, Refusal> {
     }
 }
 
-/// The position after as many words as an entry says that it has written.
+/// The place after as many words as an entry says that it has written.
 #[inline]
-fn after(position: WordPos, number: u64) -> Result<WordPos, Refusal> {
-    Ok(WordPos(position.0 + answer(number)? as usize))
+fn after(at: Place, number: u64) -> Result<Place, Refusal> {
+    Ok(at.past(answer(number)? as usize))
 }
 
 /// Writes the 1 to 4 words that move a value to a register (MOVZ, MOVN and MOVK), the same ones as asmkit's `encode_mov_sequence64`
 /// where those are right.
 ///
 /// # Errors
-/// [`Refusal::Register`] for a register above 30, then [`Refusal::NoRoom`].
+/// [`Refusal::Unaligned`], [`Refusal::Register`] for a register above 30, then [`Refusal::NoRoom`].
 ///
 /// ```
-/// use vaimalofo::{mov, words, Refusal, WordPos};
+/// use vaimalofo::{mov, words, Address, Place, Refusal, WordPos};
 ///
 /// let mut code = [0; 8];
-/// assert_eq!(mov(&mut code, WordPos(0), 0xFFFFFFFE, 1), Ok(WordPos(1)));
+/// let start = Place::at(Address(0));
+/// let next = mov(&mut code, start, 0xFFFFFFFE, 1)?;
+/// assert_eq!(next, Place { base: Address(0), position: WordPos(1) });
 /// assert_eq!(words(&code), [0x12800021, 0]);
-/// assert_eq!(mov(&mut code, WordPos(1), 0x12345678, 0), Err(Refusal::NoRoom));
-/// assert_eq!(mov(&mut code, WordPos(0), 0, 31), Err(Refusal::Register));
+/// assert_eq!(mov(&mut code, next, 0x12345678, 0), Err(Refusal::NoRoom));
+/// assert_eq!(mov(&mut code, start, 0, 31), Err(Refusal::Register));
+/// assert_eq!(mov(&mut code, Place::at(Address(2)), 0, 31), Err(Refusal::Unaligned));
+/// # Ok::<(), Refusal>(())
 /// ```
 #[inline]
-pub fn mov(
-    bytes: &mut [u8],
-    position: WordPos,
-    value: u64,
-    register: u32,
-) -> Result<WordPos, Refusal> {
-    after(position, ffi::mov(bytes, position.0, value, register))
+pub fn mov(bytes: &mut [u8], at: Place, value: u64, register: u32) -> Result<Place, Refusal> {
+    after(at, ffi::mov(bytes, at, value, register))
 }
 
 /// Writes a move whose value can be patched later: always four words at a register size of 64, two at 32, where only the low 32 bits
 /// of the value count.
 ///
 /// # Errors
-/// [`Refusal::Width`] for another size, [`Refusal::Register`] for a register above 30, then [`Refusal::NoRoom`].
+/// [`Refusal::Unaligned`], [`Refusal::Width`] for another size, [`Refusal::Register`] for a register above 30, then
+/// [`Refusal::NoRoom`].
 ///
 /// ```
-/// use vaimalofo::{patchable_mov, words, Refusal, WordPos};
+/// use vaimalofo::{patchable_mov, words, Address, Place, Refusal, WordPos};
 ///
 /// let mut code = [0; 8];
-/// assert_eq!(patchable_mov(&mut code, WordPos(0), 7, 32, 2), Ok(WordPos(2)));
+/// let start = Place::at(Address(0));
+/// let end = Place { base: Address(0), position: WordPos(2) };
+/// assert_eq!(patchable_mov(&mut code, start, 7, 32, 2), Ok(end));
 /// assert_eq!(words(&code), [0x528000E2, 0x72A00002]);
-/// assert_eq!(patchable_mov(&mut code, WordPos(0), 7, 64, 2), Err(Refusal::NoRoom));
-/// assert_eq!(patchable_mov(&mut code, WordPos(0), 7, 16, 2), Err(Refusal::Width));
+/// assert_eq!(patchable_mov(&mut code, start, 7, 64, 2), Err(Refusal::NoRoom));
+/// assert_eq!(patchable_mov(&mut code, start, 7, 16, 2), Err(Refusal::Width));
+/// assert_eq!(patchable_mov(&mut code, Place::at(Address(1)), 7, 16, 2), Err(Refusal::Unaligned));
 /// ```
 #[inline]
 pub fn patchable_mov(
     bytes: &mut [u8],
-    position: WordPos,
+    at: Place,
     value: u64,
     size: u32,
     register: u32,
-) -> Result<WordPos, Refusal> {
-    after(position, ffi::patchable_mov(bytes, position.0, value, size, register))
+) -> Result<Place, Refusal> {
+    after(at, ffi::patchable_mov(bytes, at, value, size, register))
 }
 
 /// The fields that spell a value as a logical immediate at width 32 or 64; width 32 ignores the higher bits.
@@ -177,108 +228,120 @@ pub struct Logical {
 /// Writes the word of AND, ORR, EOR or ANDS with a value as its immediate.
 ///
 /// # Errors
-/// [`Refusal::Unknown`] for an operation above 3, [`Refusal::Width`] for a width that is not 32 or 64, [`Refusal::Register`] for a
-/// register above 31, [`Refusal::NoField`] where no fields spell the value, then [`Refusal::NoRoom`].
+/// [`Refusal::Unaligned`], [`Refusal::Unknown`] for an operation above 3, [`Refusal::Width`] for a width that is not 32 or 64,
+/// [`Refusal::Register`] for a register above 31, [`Refusal::NoField`] where no fields spell the value, then [`Refusal::NoRoom`].
 ///
 /// ```
-/// use vaimalofo::{logical_word, operation, words, Logical, Refusal, WordPos};
+/// use vaimalofo::{logical_word, operation, words, Address, Logical, Place, Refusal, WordPos};
 ///
 /// let and = Logical { operation: operation::AND, width: 64, rn: 1, rd: 0 };
 /// let mut code = [0; 4];
-/// assert_eq!(logical_word(&mut code, WordPos(0), and, 0xFF), Ok(WordPos(1)));
+/// let start = Place::at(Address(0));
+/// let end = Place { base: Address(0), position: WordPos(1) };
+/// assert_eq!(logical_word(&mut code, start, and, 0xFF), Ok(end));
 /// assert_eq!(words(&code), [0x92401C20]);
-/// assert_eq!(logical_word(&mut code, WordPos(0), and, 5), Err(Refusal::NoField));
-/// assert_eq!(logical_word(&mut code, WordPos(1), and, 0xFF), Err(Refusal::NoRoom));
+/// assert_eq!(logical_word(&mut code, start, and, 5), Err(Refusal::NoField));
+/// assert_eq!(logical_word(&mut code, end, and, 0xFF), Err(Refusal::NoRoom));
+/// assert_eq!(logical_word(&mut code, Place::at(Address(3)), and, 5), Err(Refusal::Unaligned));
 /// ```
 #[inline]
 pub fn logical_word(
     bytes: &mut [u8],
-    position: WordPos,
+    at: Place,
     instruction: Logical,
     value: u64,
-) -> Result<WordPos, Refusal> {
+) -> Result<Place, Refusal> {
     let Logical { operation, width, rn, rd } = instruction;
-    after(position, ffi::logical_word(bytes, position.0, operation, (value, width), (rn, rd)))
+    after(at, ffi::logical_word(bytes, at, operation, (value, width), (rn, rd)))
 }
 
 /// Writes a base word with a distance placed in the field of a [`mod@format`]. The distance counts from the instruction; for ADRP, from
 /// its page. The base is an instruction of the format ([`has_form`]) with nothing in the field; every other bit of it stays.
 ///
 /// # Errors
-/// [`Refusal::Unknown`] for a format above 5, [`Refusal::WrongForm`] where the base is no instruction of the format,
-/// [`Refusal::Taken`] where it has a bit set in the field, [`Refusal::Step`], [`Refusal::Range`], then [`Refusal::NoRoom`].
+/// [`Refusal::Unaligned`], [`Refusal::Unknown`] for a format above 5, [`Refusal::WrongForm`] where the base is no instruction of the
+/// format, [`Refusal::Taken`] where it has a bit set in the field, [`Refusal::Step`], [`Refusal::Range`], then [`Refusal::NoRoom`].
 ///
 /// ```
-/// use vaimalofo::{displacement, format, words, ByteDistance, Refusal, WordPos};
+/// use vaimalofo::{displacement, format, words, Address, ByteDistance, Place, Refusal, WordPos};
 ///
 /// let mut code = [0; 4];
-/// let far = ByteDistance(134217728);
-/// assert_eq!(displacement(&mut code, WordPos(0), format::LDR_19, 0x58000000, ByteDistance(8)), Ok(WordPos(1)));
+/// let (start, eight, far) = (Place::at(Address(0)), ByteDistance(8), ByteDistance(134217728));
+/// let end = Place { base: Address(0), position: WordPos(1) };
+/// assert_eq!(displacement(&mut code, start, format::LDR_19, 0x58000000, eight), Ok(end));
 /// assert_eq!(words(&code), [0x58000040]);
-/// assert_eq!(displacement(&mut code, WordPos(0), format::BRANCH_26, 0x14000000, far), Err(Refusal::Range));
+/// assert_eq!(displacement(&mut code, start, format::BRANCH_26, 0x14000000, far), Err(Refusal::Range));
 /// // A branch distance into an ADR word.
-/// assert_eq!(displacement(&mut code, WordPos(0), format::BRANCH_26, 0x10000000, ByteDistance(8)), Err(Refusal::WrongForm));
+/// assert_eq!(displacement(&mut code, start, format::BRANCH_26, 0x10000000, eight), Err(Refusal::WrongForm));
+/// // No instruction stands at such an address.
+/// let odd = Place::at(Address(0x1001));
+/// assert_eq!(displacement(&mut code, odd, format::BRANCH_26, 0x10000000, eight), Err(Refusal::Unaligned));
 /// ```
 #[inline]
 pub fn displacement(
     bytes: &mut [u8],
-    position: WordPos,
+    at: Place,
     format: u32,
     base: u32,
     distance: ByteDistance,
-) -> Result<WordPos, Refusal> {
-    after(position, ffi::displacement(bytes, position.0, format, base, distance.0))
+) -> Result<Place, Refusal> {
+    after(at, ffi::displacement(bytes, at, format, base, distance.0))
 }
 
 /// What [`displacement_to`] has written.
 #[derive(Clone, Copy, Debug, PartialEq, Eq, Hash)]
 pub struct Reached {
-    /// The position just past the word.
-    pub position: WordPos,
+    /// The place just past the word.
+    pub place: Place,
     /// For ADRP the low 12 bits of the target, for the ADD that follows; none at the other formats.
     pub low12: Option<u32>,
 }
 
-/// The same from a target and the address of the instruction: the distance is target minus address, modulo 2^64 and read as signed.
-/// For ADRP both first lose their low 12 bits, so that the instruction gives the target's page, wherever in it the target lies; the
-/// answer then has the target's low bits.
+/// The same to a target: the distance is the target minus the address of the instruction, which is that of its place
+/// ([`Place::address`]), modulo 2^64 and read as signed. For ADRP both first lose their low 12 bits, so that the instruction gives the
+/// target's page, wherever in it the target lies; the answer then has the target's low bits.
 ///
 /// # Errors
 /// Those of [`displacement`], in the same order; for ADRP never [`Refusal::Step`].
 ///
 /// ```
-/// use vaimalofo::{displacement_to, format, words, Reached, Refusal, WordPos};
+/// use vaimalofo::{displacement_to, format, words, Address, Place, Reached, Refusal, WordPos};
 ///
 /// // The address 3456 (hex) in register 0: an ADRP at 1234, and behind it an ADD of the low bits, whose base is 91000000.
 /// let mut code = [0; 8];
-/// let adrp = displacement_to(&mut code, WordPos(0), format::ADRP_21, 0x90000000, 0x3456, 0x1234)?;
-/// assert_eq!(adrp, Reached { position: WordPos(1), low12: Some(0x456) });
+/// let start = Place::at(Address(0x1234));
+/// let adrp = displacement_to(&mut code, start, format::ADRP_21, 0x90000000, Address(0x3456))?;
+/// assert_eq!(adrp.low12, Some(0x456));
 /// let add = 0x91000000 | adrp.low12.unwrap_or(0) << 10;
-/// code[4 * adrp.position.0..][..4].copy_from_slice(&u32::to_le_bytes(add));
+/// code[4 * adrp.place.position.0..][..4].copy_from_slice(&u32::to_le_bytes(add));
 /// assert_eq!(words(&code), [0xD0000000, 0x91115800]);
 ///
-/// // No other format has low bits.
-/// let branch = displacement_to(&mut code, WordPos(0), format::BRANCH_26, 0x14000000, 0x3456, 0x1232)?;
-/// assert_eq!(branch, Reached { position: WordPos(1), low12: None });
-/// assert_eq!(displacement_to(&mut code, WordPos(0), format::BRANCH_26, 0x14000000, 0x3456, 0x1234), Err(Refusal::Step));
+/// // A branch as the second word of a run at 1000, so from 1004 to 100C. No format but ADRP's has low bits.
+/// let second = Place { base: Address(0x1000), position: WordPos(1) };
+/// let branch = displacement_to(&mut code, second, format::BRANCH_26, 0x14000000, Address(0x100C))?;
+/// let end = Place { base: Address(0x1000), position: WordPos(2) };
+/// assert_eq!(branch, Reached { place: end, low12: None });
+/// assert_eq!(words(&code)[1], 0x14000002);
+/// assert_eq!(displacement_to(&mut code, second, format::BRANCH_26, 0x14000000, Address(0x100E)), Err(Refusal::Step));
+///
+/// // The second word of a run at FFFFFFFFFFFFFFFC has the address 0.
+/// let zero = Place { base: Address(0xFFFFFFFFFFFFFFFC), position: WordPos(1) };
+/// displacement_to(&mut code, zero, format::BRANCH_26, 0x14000000, Address(0x10))?;
+/// assert_eq!(words(&code)[1], 0x14000004);
 /// # Ok::<(), Refusal>(())
 /// ```
 #[inline]
 pub fn displacement_to(
     bytes: &mut [u8],
-    position: WordPos,
+    at: Place,
     format: u32,
     base: u32,
-    target: u64,
-    address: u64,
+    target: Address,
 ) -> Result<Reached, Refusal> {
-    let value = answer(ffi::displacement_to(bytes, position.0, format, base, target, address))?;
+    let value = answer(ffi::displacement_to(bytes, at, format, base, target.0))?;
     // The words written in the value's low byte, and the low bits above it.
     let (written, low12) = ((value & 0xFF) as usize, (value >> 8) as u32);
-    Ok(Reached {
-        position: WordPos(position.0 + written),
-        low12: (format == format::ADRP_21).then_some(low12),
-    })
+    Ok(Reached { place: at.past(written), low12: (format == format::ADRP_21).then_some(low12) })
 }
 
 /// Whether a word has the fixed bits of an instruction of a [`mod@format`], whatever its field holds. [`displacement`] and

@@ -39,11 +39,13 @@ pub enum Refusal {
     ZeroBase = 10,
     /// 11: the base word is not an instruction of this format.
     WrongForm = 11,
+    /// 15: the base address is not a multiple of 4.
+    Unaligned = 15,
 }
 
 impl Refusal {
     /// All of them, in the order of their numbers.
-    pub const ALL: [Refusal; 11] = [
+    pub const ALL: [Refusal; 12] = [
         Refusal::Width,
         Refusal::Register,
         Refusal::NoField,
@@ -55,6 +57,7 @@ impl Refusal {
         Refusal::Index,
         Refusal::ZeroBase,
         Refusal::WrongForm,
+        Refusal::Unaligned,
     ];
 
     /// The number that stands for it at the C entries.
@@ -62,10 +65,11 @@ impl Refusal {
         self as u8
     }
 
-    /// The refusal of a number from 1 to 11.
+    /// The refusal of a number: 1 to 11, and 15. No other number is one's.
     pub const fn from_number(number: u8) -> Option<Refusal> {
         match number {
             1..=11 => Some(Refusal::ALL[number as usize - 1]),
+            15 => Some(Refusal::Unaligned),
             _ => None,
         }
     }
@@ -88,6 +92,7 @@ impl Refusal {
             Refusal::Index => "the element index is above its limit",
             Refusal::ZeroBase => "the base opcode is zero",
             Refusal::WrongForm => "the base word is not an instruction of this format",
+            Refusal::Unaligned => "the base address is not a multiple of 4",
         }
     }
 }

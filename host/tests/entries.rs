@@ -2,67 +2,99 @@
 
 use vaimalofo::{
     displacement, displacement_to, format, has_form, logical_fields, logical_word, mov, operation,
-    patchable_mov, read_displacement, words, ByteDistance, Fields, Logical, Reached, Refusal,
-    WordPos,
+    patchable_mov, read_displacement, words, Address, ByteDistance, Fields, Logical, Place,
+    Reached, Refusal, WordPos,
 };
+
+/// The greatest address that a word has.
+const LAST: u64 = 0xFFFF_FFFF_FFFF_FFFC;
+
+/// Base addresses that every call is tried at, and ones that get 15 whatever else is wrong.
+const ALIGNED: [u64; 3] = [0, 4, LAST];
+const UNALIGNED: [u64; 5] = [1, 2, 3, 0x1002, u64::MAX];
+
+const fn place(base: u64, position: usize) -> Place {
+    Place { base: Address(base), position: WordPos(position) }
+}
+
+/// The first word of a run at base address 0.
+const START: Place = place(0, 0);
 
 /// What every byte of a run holds before a call.
 fn filled(length: usize) -> Vec<u8> {
     (0..length).map(|i| 0xA5 ^ i as u8).collect()
 }
 
-/// Writes into runs of `room` bytes and a tail of 0 to 3, from each position on; `expected` is what a call gives where there is room.
-/// All bytes but those of the words, the tail among them, must be as before, and all of them where the words do not fit.
-fn at_every_place(
-    expected: &[u32],
-    write: impl Fn(&mut [u8], WordPos) -> Result<WordPos, Refusal>,
-) {
+/// Writes into runs of `room` bytes and a tail of 0 to 3, from each position on, at each base address; `expected` is what a call gives
+/// where there is room. All bytes but those of the words, the tail among them, must be as before, and all of them where the words do
+/// not fit or the base address is not a multiple of 4.
+fn at_every_place(expected: &[u32], write: impl Fn(&mut [u8], Place) -> Result<Place, Refusal>) {
     for room in (0..=6).map(|words| words * 4) {
         for tail in 0..4 {
             for position in (0..8).chain([usize::MAX / 4, usize::MAX - 1, usize::MAX]) {
                 let before = filled(room + tail);
-                let mut run = before.clone();
-                let answer = write(&mut run, WordPos(position));
-                let mut after = before.clone();
                 let fits = position <= room / 4 && expected.len() <= room / 4 - position;
+                let mut after = before.clone();
                 if fits {
                     let bytes: Vec<u8> =
                         expected.iter().flat_map(|word| word.to_le_bytes()).collect();
                     after[position * 4..][..bytes.len()].copy_from_slice(&bytes);
-                    assert_eq!(answer, Ok(WordPos(position + expected.len())));
-                } else {
-                    assert_eq!(answer, Err(Refusal::NoRoom));
                 }
-                assert_eq!(run, after);
+                for base in ALIGNED {
+                    let end = || place(base, position + expected.len());
+                    let mut run = before.clone();
+                    let answer = write(&mut run, place(base, position));
+                    assert_eq!(answer, fits.then(end).ok_or(Refusal::NoRoom));
+                    assert_eq!(run, after);
+                }
+                unaligned(&before, position, &write);
             }
         }
     }
 }
 
-/// A refusal, with a run that has room and one that has none: every byte as before.
-fn refused(refusal: Refusal, write: impl Fn(&mut [u8], WordPos) -> Result<WordPos, Refusal>) {
+/// 15 at each base address that is not a multiple of 4, and every byte as before.
+fn unaligned(
+    before: &[u8],
+    position: usize,
+    write: impl Fn(&mut [u8], Place) -> Result<Place, Refusal>,
+) {
+    for base in UNALIGNED {
+        let mut run = before.to_vec();
+        assert_eq!(write(&mut run, place(base, position)), Err(Refusal::Unaligned));
+        assert_eq!(run, before);
+    }
+}
+
+/// A refusal, with a run that has room and one that has none: every byte as before. Before it comes 15.
+fn refused(refusal: Refusal, write: impl Fn(&mut [u8], Place) -> Result<Place, Refusal>) {
     for length in [0, 3, 16, 19] {
         for position in [0, 1, 9, usize::MAX] {
             let before = filled(length);
-            let mut run = before.clone();
-            assert_eq!(write(&mut run, WordPos(position)), Err(refusal));
-            assert_eq!(run, before);
+            for base in ALIGNED {
+                let mut run = before.clone();
+                assert_eq!(write(&mut run, place(base, position)), Err(refusal));
+                assert_eq!(run, before);
+            }
+            unaligned(&before, position, &write);
         }
     }
 }
 
-/// [`displacement_to`] for the helpers above: the position, where the low bits are the target's for ADRP and none elsewhere.
-fn to(
-    run: &mut [u8],
-    at: WordPos,
-    format: u32,
-    base: u32,
-    target: u64,
-    address: u64,
-) -> Result<WordPos, Refusal> {
-    let Reached { position, low12 } = displacement_to(run, at, format, base, target, address)?;
-    assert_eq!(low12, (format == format::ADRP_21).then_some(target as u32 & 0xFFF));
-    Ok(position)
+/// The base and four times the position, modulo 2^64, in numbers that have room for it.
+fn address(at: Place) -> u64 {
+    (u128::from(at.base.0) + 4 * at.position.0 as u128) as u64
+}
+
+/// [`displacement_to`] for the helpers above, to a target that lies so far from the instruction, or for ADRP from its page: the place,
+/// where the low bits are the target's for ADRP and none elsewhere.
+fn to(run: &mut [u8], at: Place, format: u32, base: u32, distance: i64) -> Result<Place, Refusal> {
+    let adrp = format == format::ADRP_21;
+    let origin = if adrp { address(at) & !0xFFF } else { address(at) };
+    let target = origin.wrapping_add_signed(distance);
+    let Reached { place, low12 } = displacement_to(run, at, format, base, Address(target))?;
+    assert_eq!(low12, adrp.then_some(target as u32 & 0xFFF));
+    Ok(place)
 }
 
 #[test]
@@ -130,7 +162,7 @@ fn logical_words() {
     at_every_place(&[0x92401C20], |run, at| logical_word(run, at, one, 0xFF));
     let word = |operation, width, rn, rd, value| {
         let mut run = [0; 4];
-        logical_word(&mut run, WordPos(0), Logical { operation, width, rn, rd }, value)
+        logical_word(&mut run, START, Logical { operation, width, rn, rd }, value)
             .map(|_| words(&run)[0])
     };
     assert_eq!(word(operation::ORR, 32, 31, 31, 0x1_0000_00FF), Ok(0x32001FFF));
@@ -165,29 +197,32 @@ fn displacements() {
     at_every_place(&[0x30000020], |run, at| {
         displacement(run, at, format::ADR_21, 0x10000000, ByteDistance(5))
     });
-    at_every_place(&[0x58000040], |run, at| to(run, at, format::LDR_19, 0x58000000, 8, 0));
-    for target in [0x3000, 0x3004, 0x3FFF] {
-        at_every_place(&[0xD0000000], |run, at| {
-            to(run, at, format::ADRP_21, 0x90000000, target, 0x1234)
-        });
+    at_every_place(&[0x58000040], |run, at| to(run, at, format::LDR_19, 0x58000000, 8));
+    for distance in [0x2000, 0x2004, 0x2FFF] {
+        at_every_place(&[0xD0000000], |run, at| to(run, at, format::ADRP_21, 0x90000000, distance));
     }
     for (format, base, step, least, greatest) in FORMATS {
         for distance in [least, least + step, -step, 0, step, greatest - step, greatest] {
             let mut run = [0; 4];
-            displacement(&mut run, WordPos(0), format, base, ByteDistance(distance)).unwrap();
+            displacement(&mut run, START, format, base, ByteDistance(distance)).unwrap();
             assert_eq!(read_displacement(words(&run)[0], format), Ok(ByteDistance(distance)));
-            for address in [0, 0x7FFF_FFFF_FFFF_F000, 0xFFFF_FFFF_FFFF_F000] {
+            for base_address in [0, 0x7FFF_FFFF_FFFF_FFF8, 0xFFFF_FFFF_FFFF_F000, LAST] {
                 let mut again = [0; 4];
-                let target = u64::wrapping_add_signed(address, distance);
-                to(&mut again, WordPos(0), format, base, target, address).unwrap();
+                to(&mut again, place(base_address, 0), format, base, distance).unwrap();
                 assert_eq!(again, run);
             }
         }
+    }
+}
+
+#[test]
+fn displacements_are_refused_in_order() {
+    for (format, base, step, least, greatest) in FORMATS {
         for distance in [least - step, greatest + step, i64::MIN] {
             refused(Refusal::Range, |run, at| {
                 displacement(run, at, format, base, ByteDistance(distance))
             });
-            refused(Refusal::Range, |run, at| to(run, at, format, base, distance as u64, 0));
+            refused(Refusal::Range, |run, at| to(run, at, format, base, distance));
         }
         if step > 1 {
             for distance in [1, step - 1, greatest + 1, i64::MAX] {
@@ -195,7 +230,7 @@ fn displacements() {
                     displacement(run, at, format, base, ByteDistance(distance))
                 });
                 if format != format::ADRP_21 {
-                    refused(Refusal::Step, |run, at| to(run, at, format, base, distance as u64, 0));
+                    refused(Refusal::Step, |run, at| to(run, at, format, base, distance));
                 }
             }
         }
@@ -203,39 +238,74 @@ fn displacements() {
         refused(Refusal::Taken, |run, at| {
             displacement(run, at, format, taken, ByteDistance(i64::MAX))
         });
-        refused(Refusal::Taken, |run, at| to(run, at, format, taken, u64::MAX, 0));
+        refused(Refusal::Taken, |run, at| to(run, at, format, taken, i64::MAX));
     }
     for format in [6, 7, u32::MAX] {
         refused(Refusal::Unknown, |run, at| {
             displacement(run, at, format, u32::MAX, ByteDistance(1))
         });
-        refused(Refusal::Unknown, |run, at| to(run, at, format, u32::MAX, 1, 0));
+        refused(Refusal::Unknown, |run, at| to(run, at, format, u32::MAX, 1));
         assert_eq!(read_displacement(0, format), Err(Refusal::Unknown));
         assert_eq!(has_form(format, 0x14000000), Err(Refusal::Unknown));
     }
 }
 
+/// The address of a word, also of one that no run has: its position is as great as a number can be.
+#[test]
+fn addresses_count_modulo_2_to_64() {
+    assert_eq!(Place::at(Address(0x1000)), place(0x1000, 0));
+    assert_eq!(place(0x1000, 2).address(), Address(0x1008));
+    assert_eq!(place(LAST, 1).address(), Address(0));
+    assert_eq!(place(0x1000, 1 << 62).address(), Address(0x1000));
+    for base in ALIGNED.into_iter().chain(UNALIGNED) {
+        for position in [0, 1, 2, usize::MAX / 4, 1 << 62, usize::MAX / 2, usize::MAX] {
+            let at = place(base, position);
+            assert_eq!(at.address(), Address(address(at)));
+        }
+    }
+}
+
+/// One target from places that are not at one address, and from one address by different places.
+#[test]
+fn a_target_counts_from_the_address_of_the_place() {
+    let branch = |at: Place, target| {
+        let mut run = [0; 16];
+        displacement_to(&mut run, at, format::BRANCH_26, 0x14000000, Address(target))
+            .map(|_| words(&run)[at.position.0])
+    };
+    assert_eq!(branch(place(0x1000, 2), 0x1000), Ok(0x17FFFFFE));
+    assert_eq!(branch(place(0x1004, 1), 0x1000), Ok(0x17FFFFFE));
+    assert_eq!(branch(place(0x1000, 1), 0x1000), Ok(0x17FFFFFF));
+    assert_eq!(branch(place(0x1000, 0), 0x1000), Ok(0x14000000));
+    // Around 2^64, both ways.
+    assert_eq!(branch(place(LAST, 0), 0), Ok(0x14000001));
+    assert_eq!(branch(place(LAST, 1), 0), Ok(0x14000000));
+    assert_eq!(branch(place(LAST, 1), LAST), Ok(0x17FFFFFF));
+    assert_eq!(branch(place(LAST - 4, 3), 0x24), Ok(0x14000008));
+    // Past the end of the run there is an address too: 5 comes before 8.
+    assert_eq!(branch(place(0x1000, 4), 0x1010 + 134217728), Err(Refusal::Range));
+    assert_eq!(branch(place(0x1000, 4), 0x1010 + 134217724), Err(Refusal::NoRoom));
+    assert_eq!(branch(place(0x1000, 1 << 62), 0x1000), Err(Refusal::NoRoom));
+    assert_eq!(branch(place(0, usize::MAX), 134217720), Err(Refusal::NoRoom));
+    assert_eq!(branch(place(0, usize::MAX), 134217724), Err(Refusal::Range));
+}
+
 /// An ADRP to every place of a page, at both ends of the range: the word of the page, and the place; a page farther, 5.
 #[test]
 fn an_adrp_goes_to_any_target() {
-    let ends = [(-4294967296, -4096), (4294963200, 4096), (0, 0)];
-    for (address, (end, more)) in
-        [0x1000, 0x1FFF, 1 << 63, u64::MAX].into_iter().zip(ends.into_iter().cycle())
-    {
-        let page = u64::wrapping_add_signed(address & !0xFFF, end);
-        let mut expected = [0; 4];
-        displacement(&mut expected, WordPos(0), format::ADRP_21, 0x9000001E, ByteDistance(end))
-            .unwrap();
+    let (adrp, ends) = (0x9000001E, [(-4294967296, -4096), (4294963200, 4096), (0, 0)]);
+    // The second word of a run, at the addresses 0, 1000, 1FFC, 2^63 and the last one.
+    let bases = [LAST, 0xFFC, 0x1FF8, (1 << 63) - 4, LAST - 4];
+    for (base, (end, more)) in bases.into_iter().zip(ends.into_iter().cycle()) {
+        let mut expected = [0; 8];
+        displacement(&mut expected, place(0, 1), format::ADRP_21, adrp, ByteDistance(end)).unwrap();
         for low in 0..4096 {
-            let mut run = [0; 4];
-            to(&mut run, WordPos(0), format::ADRP_21, 0x9000001E, page + low, address).unwrap();
+            let mut run = [0; 8];
+            to(&mut run, place(base, 1), format::ADRP_21, adrp, end + low).unwrap();
             assert_eq!(run, expected);
         }
         for low in [0, 1, 0xFFF].into_iter().filter(|_| more != 0) {
-            let beyond = u64::wrapping_add_signed(page, more) + low;
-            refused(Refusal::Range, |run, at| {
-                to(run, at, format::ADRP_21, 0x9000001E, beyond, address)
-            });
+            refused(Refusal::Range, |run, at| to(run, at, format::ADRP_21, adrp, end + more + low));
         }
     }
 }
@@ -260,7 +330,7 @@ fn an_instruction_is_a_base_at_its_own_format_only() {
                     refused(Refusal::WrongForm, |run, at| {
                         displacement(run, at, format, base, ByteDistance(i64::MAX))
                     });
-                    refused(Refusal::WrongForm, |run, at| to(run, at, format, base, u64::MAX, 0));
+                    refused(Refusal::WrongForm, |run, at| to(run, at, format, base, i64::MAX));
                 }
             }
             at_every_place(&[base], |run, at| displacement(run, at, own, base, ByteDistance(0)));
@@ -294,7 +364,7 @@ fn what_is_written_is_of_the_form_of_its_base() {
         for base in bases.iter().copied() {
             for distance in [least, -step, step] {
                 let mut run = [0; 4];
-                displacement(&mut run, WordPos(0), format, base, ByteDistance(distance)).unwrap();
+                displacement(&mut run, START, format, base, ByteDistance(distance)).unwrap();
                 let word = words(&run)[0];
                 assert_eq!(has_form(format, word), Ok(true));
                 refused(Refusal::Taken, |run, at| {
@@ -305,19 +375,25 @@ fn what_is_written_is_of_the_form_of_its_base() {
     }
 }
 
+/// The numbers 12 to 14 are no refusal's.
 #[test]
 fn refusals_print_in_words() {
-    for (i, refusal) in Refusal::ALL.into_iter().enumerate() {
-        let number = i as u8 + 1;
-        assert_eq!(refusal.number(), number);
-        assert_eq!(Refusal::from_number(number), Some(refusal));
-        assert!(refusal.to_string().starts_with(&format!("refusal {number}: ")));
+    let numbers: Vec<u8> = Refusal::ALL.into_iter().map(Refusal::number).collect();
+    assert_eq!(numbers, [1, 2, 3, 4, 5, 6, 7, 8, 9, 10, 11, 15]);
+    for number in 0..=u8::MAX {
+        let found = Refusal::ALL.into_iter().find(|refusal| refusal.number() == number);
+        assert_eq!(Refusal::from_number(number), found);
     }
-    assert_eq!(Refusal::from_number(0), None);
-    assert_eq!(Refusal::from_number(12), None);
+    for refusal in Refusal::ALL {
+        assert!(refusal.to_string().starts_with(&format!("refusal {}: ", refusal.number())));
+    }
     let error: Box<dyn std::error::Error> = Box::new(Refusal::NoRoom);
     assert_eq!(
         error.to_string(),
         "refusal 8: the words do not fit from the position on, or the position lies past the end"
+    );
+    assert_eq!(
+        Refusal::Unaligned.to_string(),
+        "refusal 15: the base address is not a multiple of 4"
     );
 }

@@ -1,9 +1,12 @@
-//! The Rust beside document 01's model on many requests: equal, or of a known class.
+//! The Rust beside document 01's model on many requests: equal, or of a known class. And what the
+//! model says of its own answers.
 
 use oracle::document::displacements::{disp_word, read_disp};
 use oracle::document::immediates::expand_float;
 use oracle::document::moves::{move_words, patchable_words};
 use oracle::lists::{LISTS, random::Random};
+use oracle::replay::answer::{Answer, Said, packed};
+use oracle::replay::by_document::answer;
 use oracle::replay::request::{Request, entry::*};
 use oracle::replay::settle;
 use oracle::rust;
@@ -21,7 +24,7 @@ fn agree(module: usize) {
     let list = &LISTS[module - 1];
     for entry in list.entries {
         let mut random = Random::new(1000 + entry);
-        (0..ROUNDS).for_each(|_| settles(&(list.any)(*entry, &mut random)));
+        (0..ROUNDS).for_each(|_| settles(&list.anywhere(*entry, &mut random)));
     }
 }
 
@@ -133,6 +136,35 @@ fn displacements_read_back() {
         let (format, distance) = (request.low(0), request.args[2] as i64);
         if let Ok(word) = disp_word(format, request.low(1), distance) {
             assert_eq!(read_disp(word, format), Ok(distance));
+        }
+    }
+}
+
+/// The entries that write words: module, entry, and the argument that gives the length of the run.
+const WRITERS: [(usize, u64, usize); 7] = [
+    (1, PUT, 0),
+    (1, PUT_BYTES, 0),
+    (3, LOGICAL_WORD, 5),
+    (5, MOVE, 2),
+    (6, PATCHABLE_MOVE, 3),
+    (7, DISP_IMM, 3),
+    (7, DISP_TARGET, 3),
+];
+
+/// A base address that is a multiple of 4 changes no answer, if a target moves along, for ADRP by
+/// whole pages; any other is refused with 15, whatever else is wrong, and the run is as it was.
+#[test]
+fn the_base_address_moves_targets_alone() {
+    for (module, entry, i) in WRITERS {
+        let mut random = Random::new(3000 + entry);
+        for _ in 0..ROUNDS {
+            let request = (LISTS[module - 1].any)(entry, &mut random);
+            let base = request.place().base;
+            let elsewhere = request.moved(base.wrapping_add(random.value() << 12));
+            assert_eq!(answer(&elsewhere), answer(&request), "{elsewhere}");
+            let off = request.moved(base + 1 + random.below(3));
+            let run = if entry == PUT_BYTES { packed(&off.byte_run(i)) } else { off.run(i) };
+            assert_eq!(answer(&off), Answer { said: Said::No(15), run }, "{off}");
         }
     }
 }

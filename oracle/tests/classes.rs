@@ -14,7 +14,7 @@ use oracle::replay::departures;
 use oracle::replay::request::{Request, entry::*};
 
 /// How many classes there are.
-const CLASSES: usize = 21;
+const CLASSES: usize = 22;
 
 fn all_requests() -> impl Iterator<Item = Request> {
     LISTS.iter().flat_map(|list| (list.requests)())

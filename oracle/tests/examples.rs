@@ -1,17 +1,21 @@
-//! Document 01's examples, asked of its model and, where it has no departure, of the Rust; and the
-//! forms of document 02's request h.
+//! Document 01's examples, asked of its model and, where it has no departure, of the Rust; and
+//! examples of document 02's requests f, g and h.
 
 use std::fs;
 use std::path::Path;
 
 use oracle::document::No;
 use oracle::document::displacements::{
-    FORMATS, FORMS, disp_word, distance, has_form, low_12, read_disp,
+    FORMATS, FORMS, disp_word, distance, emit_disp_imm, emit_disp_target, has_form, low_12,
+    read_disp,
 };
 use oracle::document::immediates::{encode_byte_mask, encode_float, expand_float};
-use oracle::document::logical::{encode_logical_imm, masks, normalise};
-use oracle::document::moves::{move_words, patchable_words};
+use oracle::document::logical::{encode_logical_imm, masks, normalise, put_logical_word};
+use oracle::document::moves::{
+    encode_mov_sequence64, encode_patchable_mov_imm, move_words, patchable_words,
+};
 use oracle::document::simd::{element_type_to_size_op, pick_fp_opcode};
+use oracle::document::words::{Place, put, put_bytes};
 use oracle::replay::by_document;
 use oracle::replay::request::Request;
 use oracle::rust;
@@ -25,7 +29,7 @@ fn the_stored_examples() {
     let numbers: Vec<u64> = asked.chunks(8).map(number).collect();
     let text =
         |request: &[u64]| by_document::answer(&Request::new(request[0], &request[1..])).text();
-    let answers: String = numbers.chunks(8).map(text).collect();
+    let answers: String = numbers.chunks(Request::BYTES / 8).map(text).collect();
     assert_eq!(answers, fs::read_to_string(folder.join("stdout")).unwrap());
 }
 
@@ -231,6 +235,76 @@ fn an_adrp_goes_to_any_target() {
     // The Rust wants the target on a page.
     assert_eq!(rust::emit_rel(4, 0x9000_0000, 0x3004, 0x1000), Some(Ok(None)));
     assert_eq!(rust::emit_rel(4, 0x9000_0000, 0x3000, 0x1000), Some(Ok(Some(0xD000_0000))));
+}
+
+/// The last multiple of 4: the word behind it has address 0.
+const LAST: u64 = u64::MAX - 3;
+
+#[test]
+fn the_address_of_a_word() {
+    let address = |base, position| Place { base, position }.address();
+    assert_eq!([address(0, 0), address(0, 3), address(0x1000, 2)], [0, 12, 0x1008]);
+    assert_eq!([address(LAST, 0), address(LAST, 1), address(LAST, 2)], [LAST, 0, 4]);
+    assert_eq!([address(8, 1 << 62), address(8, u64::MAX)], [8, 4]);
+}
+
+#[test]
+fn a_target_is_reached_from_the_address() {
+    let to = |base, position, format, word, target| {
+        let mut run = [0; 4];
+        let said = emit_disp_target(&mut run, Place { base, position }, format, word, target);
+        said.map(|said| (said, run[position as usize]))
+    };
+    // B to 20 from 12, and to the same target from other words and other bases.
+    assert_eq!(to(0, 3, 0, 0x1400_0000, 20), Ok((4, 0x1400_0002)));
+    assert_eq!(to(0, 2, 0, 0x1400_0000, 20), Ok((3, 0x1400_0003)));
+    assert_eq!(to(8, 3, 0, 0x1400_0000, 20), Ok((4, 0x1400_0000)));
+    // Around 2^64: from the last word to 0, from 0 back to it, and to itself.
+    assert_eq!(to(LAST, 0, 0, 0x1400_0000, 0), Ok((1, 0x1400_0001)));
+    assert_eq!(to(LAST, 1, 0, 0x1400_0000, LAST), Ok((2, 0x17FF_FFFF)));
+    assert_eq!(to(LAST, 1, 0, 0x1400_0000, 0), Ok((2, 0x1400_0000)));
+    // ADRP: page 0 is the one behind the last, and the page of the word at address 0.
+    assert_eq!(to(LAST, 0, 4, 0x9000_0000, 0x123), Ok((1, 0xB000_0000)));
+    assert_eq!(to(LAST, 1, 4, 0x9000_0000, 0x123), Ok((2, 0x9000_0000)));
+    // In reach of one word, and not of the next.
+    assert_eq!(to(LAST, 1, 2, 0x3600_0000, 0x8000), Err(No(5)));
+    assert_eq!(to(LAST, 2, 2, 0x3600_0000, 0x8000), Ok((3, 0x3603_FFE0)));
+}
+
+#[test]
+fn a_base_address_off_the_step_is_told_first() {
+    for base in [1, 2, 3, 5, u64::MAX - 2, u64::MAX] {
+        // There is no room either, and each entry has more to refuse.
+        let (at, run) = (Place { base, position: 9 }, &mut [7; 2]);
+        assert_eq!(put(run, at, Ok(vec![1])), Err(No(15)));
+        assert_eq!(put(run, at, Err(No(7))), Err(No(15)));
+        assert_eq!(put_logical_word(run, at, 4, 5, 16, (32, 32)), Err(No(15)));
+        assert_eq!(encode_mov_sequence64(run, at, 0, 31), Err(No(15)));
+        assert_eq!(encode_patchable_mov_imm(run, at, 0, 16, 31), Err(No(15)));
+        assert_eq!(emit_disp_imm(run, at, 6, 0x1000_0020, 2), Err(No(15)));
+        assert_eq!(emit_disp_target(run, at, 6, 0x1000_0020, 2), Err(No(15)));
+        assert_eq!(put_bytes(&mut [7; 8], at, Ok(vec![])), Err(No(15)));
+        // With all else right nothing is written.
+        assert_eq!(encode_mov_sequence64(run, Place { base, position: 0 }, 0, 1), Err(No(15)));
+        assert_eq!(run, &[7; 2]);
+    }
+}
+
+#[test]
+fn a_base_address_on_the_step_changes_no_order() {
+    for base in [0, 4, LAST] {
+        let (at, run) = (Place { base, position: 9 }, &mut [7; 2]);
+        assert_eq!(put(run, at, Ok(vec![1])), Err(No(8)));
+        assert_eq!(put(run, at, Err(No(7))), Err(No(7)));
+        assert_eq!(put_logical_word(run, at, 4, 5, 16, (32, 32)), Err(No(7)));
+        assert_eq!(encode_mov_sequence64(run, at, 0, 31), Err(No(2)));
+        assert_eq!(encode_patchable_mov_imm(run, at, 0, 16, 31), Err(No(1)));
+        assert_eq!(emit_disp_imm(run, at, 0, 0x1000_0020, 2), Err(No(11)));
+        assert_eq!(emit_disp_target(run, at, 0, 0x1400_0000, base + 2), Err(No(4)));
+        assert_eq!(put_bytes(&mut [7; 8], at, Ok(vec![])), Err(No(8)));
+        assert_eq!(encode_mov_sequence64(run, Place { base, position: 1 }, 0, 1), Ok(2));
+        assert_eq!(run, &[7, 0xD280_0001]);
+    }
 }
 
 #[test]

@@ -11,6 +11,7 @@ use lib.IntN.{ℤ, pos, negsuc, natAbs}
 use lib.Pow.{pow-add, pow-pos}
 use lib.Signed.{mag, ltZ}
 use Rattle.words.specs.Said.{Said, ok, no}
+use Rattle.words.specs.declared.Refusal.the-variants.{Unknown, WrongForm, Taken, Step, Range}
 use Rattle.forms.specs.Form.{hasForm, Formed}
 use Rattle.arm.proofs.Tests.{never}
 use Rattle.words.proofs.Answers.{Short, Alone, Numbered, alone-short}
@@ -155,11 +156,11 @@ pub numbered : (n b : ℕ) (d : ℤ) → Numbered (dispSaid n b d)
 numbered n b d = go (says n b d)
   where
     go : {a : Said (List ℕ)} → Says n b d a → Numbered a
-    go (unknown h) = omega arith
-    go (alien h o) = omega arith
-    go (taken h t) = omega arith
-    go (off h free o) = omega arith
-    go (far h free on r) = omega arith
+    go (unknown h) = (Unknown, refl)
+    go (alien h o) = (WrongForm, refl)
+    go (taken h t) = (Taken, refl)
+    go (off h free o) = (Step, refl)
+    go (far h free on r) = (Range, refl)
     go (word h free on r) = tt
 
 pub short : (n b : ℕ) (d : ℤ) → Short (dispSaid n b d)

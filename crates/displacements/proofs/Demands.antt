@@ -11,7 +11,7 @@ use lib.Dec.{eqb, ltb, leb→le}
 use lib.IntN.{ℤ, pos, negsuc, negℤ}
 use lib.ListN.{length, getD}
 use lib.Pow.{pow-pos, pow-mono}
-use lib.Seq.{getD-set-same, getD-set-other}
+use lib.Seq.{sets, getD-set-same, getD-set-other}
 use lib.Signed.{mag}
 use mir.Syntax.{w64}
 use mir.Val.{SFits, ofZ}
@@ -20,11 +20,14 @@ use Rattle.arm.specs.FixedBits.{isBcond, isCBZ}
 use Rattle.arm.proofs.SignExtends.{extend, extended}
 use Rattle.words.specs.Said.{Said, ok, no}
 use Rattle.forms.specs.Form.{hasForm, Formed, formSaid}
-use Rattle.writers.specs.Put.{putOf}
-use Rattle.words.proofs.Answers.{not-both}
+use Rattle.words.specs.Place.{placeAt, baseOf, posOf, on, addressOf, Aligned}
+use Rattle.words.specs.declared.Place.{Place}
+use Rattle.writers.specs.Put.{putAt, atBase, putOf}
+use Rattle.writers.specs.Says.{refused, full, Puts}
+use Rattle.words.proofs.Answers.{Alone, not-both}
 use Rattle.words.proofs.Fields.{part, bit, bit-of-clear, clear-of-bits}
 use Rattle.forms.proofs.Instructions.{one-form}
-use Rattle.writers.proofs.Writes.{put-full, put-fits, put-done}
+use Rattle.writers.proofs.Writes.{put-exactly, put-answers, put-15, put-before, put-done}
 use Rattle.displacements.specs.declared.Form.{Form}
 use Rattle.displacements.specs.Forms.{forms, formOf, fieldIn, putIn, step, reach, least, greatest}
 use Rattle.displacements.specs.Answer.{stepsOf, placeSaid, dispSaid, pageOf, between, targetSaid, offset, readSaid}
@@ -32,7 +35,7 @@ use Rattle.displacements.specs.Private.{Sound, offsetIn}
 use Rattle.displacements.specs.Says.{Says, unknown, alien, taken, off, far, word, Based, Free, OnStep, InRange}
 use Rattle.displacements.proofs.Laws.{sound, arm-reads, Outside, put-there, put-kept, rest-free, lows-free}
 use Rattle.displacements.proofs.Distances.{steps-bits, steps-back}
-use Rattle.displacements.proofs.Answers.{says, answers}
+use Rattle.displacements.proofs.Answers.{says, answers, alone}
 use Rattle.displacements.proofs.Kept.{forms-kept, conds-kept}
 
 -- ---- the table is document 01's: step, least, greatest
@@ -255,55 +258,72 @@ arrives n b t a w ht ha e =
     back : (t o : ℕ) → t < 2 ^ 64 → o < 2 ^ 64 → (o + (t + (2 ^ 64 - o)) % 2 ^ 64) % 2 ^ 64 ≡ t
     back t o h k = omega arith
 
--- ---- the entries that write: 8 last, and what stands at the position reads back
+-- ---- the entries that write: 15 first and 8 last, and what stands at the position reads back
 
-module _ (ws : List ℕ) (at n b : ℕ) (d : ℤ) where
-  -- a refusal of the word is the entry's, and changes nothing
-  pub emit-refuses : (k : ℕ) → dispSaid n b d ≡ no k → putOf ws at (dispSaid n b d) ≡ (no k, ws)
-  unfolding putOf
-  emit-refuses k e = ap (putOf ws at) e
+module _ (ws : List ℕ) (at : Place) (n b : ℕ) (d : ℤ) where
+  -- "15 is tested first": whatever the word is, a base that is no multiple of 4 is all that is said
+  pub emit-15 : (Aligned at → ⊥) → putOf ws at (dispSaid n b d) ≡ (no 15, ws)
+  emit-15 = put-15 ws at (dispSaid n b d)
 
-  -- a word needs room for itself at the position
-  pub emit-8 : (w : ℕ) → dispSaid n b d ≡ ok (w ∷ []) → (putOf ws at (dispSaid n b d) ≡ (no 8, ws)) ↔ (length ws ≤ at)
-  emit-8 w e = (λ f. go (sym (ap (putOf ws at) e) ∙ f), λ h. ap (putOf ws at) e ∙ put-full ws at (w ∷ []) (omega arith))
-    where
-      go : putOf ws at (ok (w ∷ [])) ≡ (no 8, ws) → length ws ≤ at
-      go f =
-          let n : at < length ws → ⊥ = λ h. not-both (ap (λ (r : Said ℕ × List ℕ). r .0) (sym (put-fits ws at (w ∷ []) (omega arith)) ∙ f)) in
-          omega arith
+  module _ (a : Aligned at) where
+    -- a refusal of the word is the entry's, and changes nothing
+    pub emit-refuses : (k : ℕ) → dispSaid n b d ≡ no k → putOf ws at (dispSaid n b d) ≡ (no k, ws)
+    emit-refuses k e = put-answers ws at (dispSaid n b d) (refused k a e)
 
--- after a success the word stands at the position, the new position is one more, and every other word is as before
-pub record Emitted (ws : List ℕ) (at : ℕ) (x : Said (List ℕ)) (p : ℕ) (ws′ : List ℕ) : Type 0 where
-  pub room : at < length ws
-  pub past : p ≡ at + 1
-  pub there : x ≡ ok (getD ws′ at 0 ∷ [])
-  pub others : (k : ℕ) → (k ≡ at → ⊥) → getD ws′ k 0 ≡ getD ws k 0
+    -- a word needs room for itself at the position
+    pub emit-8 : (w : ℕ) → dispSaid n b d ≡ ok (w ∷ []) → (putOf ws at (dispSaid n b d) ≡ (no 8, ws)) ↔ (length ws ≤ posOf at)
+    emit-8 w e = (λ f. go (put-exactly ws at (dispSaid n b d) (no 8, ws) .0 f), λ h. put-answers ws at (dispSaid n b d) (full (w ∷ []) a e (omega arith)))
+      where
+        go : Puts ws at (dispSaid n b d) (no 8, ws) → length ws ≤ posOf at
+        go (refused k a q) = absurd (not-both (sym e ∙ q))
+        go (full vs a q h) = let same : w ∷ [] ≡ vs = cc in omega (arith, h, ap length same)
 
-module _ (ws : List ℕ) (at n b : ℕ) (d : ℤ) (p : ℕ) (ws′ : List ℕ) (e : (ok p, ws′) ≡ putOf ws at (dispSaid n b d)) where
+-- after a success the word stands at the position, the new place is one word on, and every other word is as before
+pub record Emitted (ws : List ℕ) (at : Place) (x : Said (List ℕ)) (p : Place) (ws′ : List ℕ) : Type 0 where
+  pub base : Aligned at
+  pub room : posOf at < length ws
+  pub past : p ≡ on at 1
+  pub there : x ≡ ok (getD ws′ (posOf at) 0 ∷ [])
+  pub others : (k : ℕ) → (k ≡ posOf at → ⊥) → getD ws′ k 0 ≡ getD ws k 0
+
+-- whatever one word was asked for
+one-put : (ws : List ℕ) (at : Place) (x : Said (List ℕ)) (p : Place) (ws′ : List ℕ) → Alone x → (ok p, ws′) ≡ putOf ws at x → Emitted ws at x p ws′
+one-put ws at x p ws′ one e = let d = put-done ws at x ws′ p e in go (d .vs) (d .asked) (d .base) (d .past) (d .holds) (d .fits)
+  where
+    go : (vs : List ℕ) → x ≡ ok vs → Aligned at → p ≡ on at (length vs) → ws′ ≡ sets ws (posOf at) vs → posOf at + length vs ≤ length ws → Emitted ws at x p ws′
+    go [] q a past holds fits = absurd (omega (arith, subst Alone q one))
+    go (w ∷ []) q a past holds fits =
+        let room : posOf at < length ws = omega (arith, fits) in
+        let there : getD ws′ (posOf at) 0 ≡ w = rw holds (getD-set-same ws (posOf at) w 0 room) in
+        record { base = a; room = room; past = past; there = rw there q; others = λ k i. rw holds (getD-set-other ws (posOf at) k w 0 i) }
+    go (v ∷ w ∷ vs) q a past holds fits = absurd (omega (arith, subst Alone q one))
+
+module _ (ws : List ℕ) (at : Place) (n b : ℕ) (d : ℤ) (p : Place) (ws′ : List ℕ) (e : (ok p, ws′) ≡ putOf ws at (dispSaid n b d)) where
   pub emitted : Emitted ws at (dispSaid n b d) p ws′
-  unfolding putOf
-  emitted = go (says n b d) e
-    where
-      never : {A : Type 0} (k : ℕ) → _≡_ {A = Said ℕ × List ℕ} (ok p, ws′) (no k, ws) → A
-      never k f = absurd (not-both (ap (λ (r : Said ℕ × List ℕ). r .0) f))
-
-      go : {x : Said (List ℕ)} → Says n b d x → (ok p, ws′) ≡ putOf ws at x → Emitted ws at x p ws′
-      go (unknown h) f = never 7 f
-      go (alien h o) f = never 11 f
-      go (taken h t) f = never 6 f
-      go (off h free o) f = never 4 f
-      go (far h free on r) f = never 5 f
-      go (word h free on r) f =
-          let w = putIn (formOf n) b (stepsOf (formOf n) d) in
-          let done = put-done ws at ws′ (w ∷ []) p f in
-          let room : at < length ws = omega (arith, done .fits) in
-          let there : getD ws′ at 0 ≡ w = rw (done .holds) (getD-set-same ws at w 0 room) in
-          record { room = room; past = done .past; there = rw there refl; others = λ k i. rw (done .holds) (getD-set-other ws at k w 0 i) }
+  emitted = one-put ws at (dispSaid n b d) p ws′ (alone n b d) e
 
   -- by Arm's reading and by the reader
-  pub emit-reads-back : (offset n (getD ws′ at 0) ≡ ofZ w64 d) × (readSaid (getD ws′ at 0) n ≡ ok d)
-  emit-reads-back = let w = getD ws′ at 0 in (arm-reads-back n b d w (emitted .there), read-back n b d w (emitted .there))
+  pub emit-reads-back : (offset n (getD ws′ (posOf at) 0) ≡ ofZ w64 d) × (readSaid (getD ws′ (posOf at) 0) n ≡ ok d)
+  emit-reads-back = let w = getD ws′ (posOf at) 0 in (arm-reads-back n b d w (emitted .there), read-back n b d w (emitted .there))
 
-pub emit-arrives : (ws : List ℕ) (at n b t a p : ℕ) (ws′ : List ℕ) → t < 2 ^ 64 → a < 2 ^ 64
-    → (ok p, ws′) ≡ putOf ws at (targetSaid n b t a) → (pageOf n a + offset n (getD ws′ at 0)) % 2 ^ 64 ≡ pageOf n t
-emit-arrives ws at n b t a p ws′ ht ha e = arrives n b t a (getD ws′ at 0) ht ha (emitted ws at n b (between (pageOf n t) (pageOf n a)) p ws′ e .there)
+-- ---- the target entry, written: the address is the place's
+
+pub address-fits : (at : Place) → addressOf at < 2 ^ 64
+address-fits at = mod-lt (baseOf at + 4 * posOf at) (pow-pos 64)
+
+module _ (ws : List ℕ) (at : Place) (n b t : ℕ) where
+  pub emit-arrives : (p : Place) (ws′ : List ℕ) → t < 2 ^ 64
+      → (ok p, ws′) ≡ putOf ws at (targetSaid n b t (addressOf at)) → (pageOf n (addressOf at) + offset n (getD ws′ (posOf at) 0)) % 2 ^ 64 ≡ pageOf n t
+  emit-arrives p ws′ ht e =
+      arrives n b t (addressOf at) (getD ws′ (posOf at) 0) ht (address-fits at)
+      (emitted ws at n b (between (pageOf n t) (pageOf n (addressOf at))) p ws′ e .there)
+
+pub zero-address : (p : ℕ) → 4 * p < 2 ^ 64 → addressOf (placeAt 0 p) ≡ 4 * p
+zero-address p h = omega arith
+
+-- "At base 0 no word changes, where the address given to the target entry was four times the position": what document 01's writer says of that address
+pub zero-base : (ws : List ℕ) (p n b t : ℕ) → 4 * p < 2 ^ 64
+    → putOf ws (placeAt 0 p) (targetSaid n b t (addressOf (placeAt 0 p))) ≡ atBase (record { 0 = 0 }) (putAt ws p (targetSaid n b t (4 * p)))
+zero-base ws p n b t h =
+    put-before ws (placeAt 0 p) (targetSaid n b t (addressOf (placeAt 0 p))) refl
+    ∙ ap (λ (a : ℕ). atBase (record { 0 = 0 }) (putAt ws p (targetSaid n b t a))) (zero-address p h)

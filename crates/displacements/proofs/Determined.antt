@@ -4,6 +4,7 @@ use mathlib.Core.Option.{Option, some, none}
 use Prim.Native.Nat.{ℕ}
 use denote.Ref.{now}
 use lib.IntN.{ℤ}
+use Rattle.words.specs.declared.Place.{Place}
 use Rattle.words.specs.declared.Words.{Words}
 use Rattle.words.proofs.Answers.{all-said, answered, refusal-back, made-all}
 use Rattle.words.proofs.Contracts.{OneAnswer, OneWrite, one-answer, one-pair, one-write}
@@ -42,9 +43,9 @@ word-all = all-said wordSaid (answered wordOf NoWord) word-back
 pub disp-target-word-determined : OneAnswer disp-target-word.Post
 disp-target-word-determined k a r s x y p q = word-all r s (one-answer p q)
 
-abbrev wroteOf : ℕ × Option ℕ → TargetWritten
-wroteOf (p, none) = Wrote (record { 0 = p })
-wroteOf (p, some l) = WrotePage (record { 0 = p }) (record { 0 = l })
+abbrev wroteOf : Place × Option ℕ → TargetWritten
+wroteOf (p, none) = Wrote p
+wroteOf (p, some l) = WrotePage p (record { 0 = l })
 
 written-back : (r : TargetWritten) → answered wroteOf NotWritten (writtenSaid r) ≡ r
 written-back (Wrote p) = refl

@@ -6,6 +6,9 @@ use Prim.Native.Nat.{ℕ, _^_}
 use lib.IntN.{pos, negℤ}
 use Rattle.arm.proofs.Worked.{Worked}
 use Rattle.words.specs.Said.{Said, ok, no}
+use Rattle.words.specs.Place.{placeAt, addressOf}
+use Rattle.words.specs.declared.Place.{Place}
+use Rattle.writers.specs.Put.{putAt, based, putOf}
 use Rattle.forms.specs.Form.{hasForm}
 use Rattle.displacements.specs.Answer.{placeSaid, dispSaid, targetSaid, lowOf, carrying, readSaid}
 
@@ -59,6 +62,32 @@ pub targets-right :
     ∷ [])
 unfolding placeSaid hasForm
 targets-right = refl
+
+-- a target written from a place of a run of four words
+abbrev run : List ℕ
+run = 1 ∷ 2 ∷ 3 ∷ 4 ∷ []
+
+abbrev from : (base position n b t : ℕ) → Said Place × List ℕ
+from base position n b t = let at = placeAt base position in putOf run at (targetSaid n b t (addressOf at))
+
+pub places-right :
+    Worked
+    ((from 0 3 0 0x14000000 0x1000, (ok (placeAt 0 4), 1 ∷ 2 ∷ 3 ∷ 0x140003FD ∷ []))
+    ∷ (from 0x1000 3 0 0x14000000 0x1000, (ok (placeAt 0x1000 4), 1 ∷ 2 ∷ 3 ∷ 0x17FFFFFD ∷ []))
+    ∷ (from 0xFFFFFFFFFFFFFFFC 0 0 0x14000000 0, (ok (placeAt 0xFFFFFFFFFFFFFFFC 1), 0x14000001 ∷ 2 ∷ 3 ∷ 4 ∷ []))
+    ∷ (from 0xFFFFFFFFFFFFFFFC 1 0 0x14000000 0, (ok (placeAt 0xFFFFFFFFFFFFFFFC 2), 1 ∷ 0x14000000 ∷ 3 ∷ 4 ∷ []))  -- its address is 0
+    ∷ (from 0xFFFFFFFFFFFFFFFC 3 0 0x14000000 0, (ok (placeAt 0xFFFFFFFFFFFFFFFC 4), 1 ∷ 2 ∷ 3 ∷ 0x17FFFFFE ∷ []))
+    ∷ (from 0xFFC 1 4 0x90000000 0x3456, (ok (placeAt 0xFFC 2), 1 ∷ 0xD0000000 ∷ 3 ∷ 4 ∷ []))  -- the word is on the next page
+    ∷ (from 4 4 0 0x14000000 0, (no 8, run))
+    ∷ (from 1 0 0 0x14000000 0, (no 15, run))
+    ∷ (from 2 0 0 0x14000000 0, (no 15, run))
+    ∷ (from 3 0 0 0x14000000 0, (no 15, run))
+    ∷ (from 2 4 0 0x14000000 0, (no 15, run))  -- 15 before 8
+    ∷ (from 4 4 6 0x10000001 2, (no 7, run))
+    ∷ (from 2 4 6 0x10000001 2, (no 15, run))  -- 15 before 7
+    ∷ [])
+unfolding placeSaid hasForm putOf putAt based
+places-right = refl
 
 pub read-right :
     Worked

@@ -14,6 +14,8 @@ use mir.Facts.{sfits-toZ}
 use Rattle.arm.specs.Bits.{bits, join}
 use Rattle.arm.specs.Displacements.{pageADRP}
 use Rattle.words.specs.Said.{ok, no}
+use Rattle.words.specs.Place.{posOf, addressOf}
+use Rattle.words.specs.declared.Place.{Place}
 use Rattle.writers.specs.Put.{putOf}
 use Rattle.displacements.specs.Forms.{formOf, putIn}
 use Rattle.displacements.specs.Answer.{stepsOf, dispSaid, pageOf, between, targetSaid, lowOf, carrying, carried}
@@ -21,7 +23,7 @@ use Rattle.displacements.specs.Says.{Based, Free, OnStep, InRange, word}
 use Rattle.displacements.proofs.Distances.{bits-steps}
 use Rattle.displacements.proofs.Answers.{answers}
 use Rattle.displacements.proofs.Targets.{carrying-parts, carried-parts, low-four}
-use Rattle.displacements.proofs.Demands.{exactly-4, exactly-5, elsewhere, arrives, bits-between, emitted}
+use Rattle.displacements.proofs.Demands.{exactly-4, exactly-5, elsewhere, arrives, bits-between, address-fits, emitted}
 
 -- the distance of a target's page from an address's
 abbrev pub pages : (t a : ℕ) → ℤ
@@ -91,9 +93,11 @@ module _ (n b t a : ℕ) (ht : t < 2 ^ 64) (ha : a < 2 ^ 64) where
       let k = carrying-parts (lowOf n t) (targetSaid n b t a) (w ∷ []) (some l) e in
       paged-at w l (low-four n t l (k .1) .0) (low-four n t l (k .1) .1) (k .0)
 
-  -- and written
-  pub emit-paged : (ws : List ℕ) (at p l : ℕ) (ws′ : List ℕ) → (ok (p, some l), ws′) ≡ carried (lowOf n t) (putOf ws at (targetSaid n b t a)) → Paged t a (getD ws′ at 0) l
-  emit-paged ws at p l ws′ e =
-      let k = carried-parts (lowOf n t) (putOf ws at (targetSaid n b t a)) p (some l) ws′ e in
-      paged-at (getD ws′ at 0) l (low-four n t l (k .1) .0) (low-four n t l (k .1) .1)
-      (emitted ws at n b (between (pageOf n t) (pageOf n a)) p ws′ (k .0) .there)
+-- and written, at the address of the place
+pub emit-paged : (ws : List ℕ) (at : Place) (n b t : ℕ) (p : Place) (l : ℕ) (ws′ : List ℕ) → t < 2 ^ 64
+    → (ok (p, some l), ws′) ≡ carried (lowOf n t) (putOf ws at (targetSaid n b t (addressOf at))) → Paged t (addressOf at) (getD ws′ (posOf at) 0) l
+emit-paged ws at n b t p l ws′ ht e =
+    let a = addressOf at in
+    let k = carried-parts (lowOf n t) (putOf ws at (targetSaid n b t a)) p (some l) ws′ e in
+    paged-at n b t a ht (address-fits at) (getD ws′ (posOf at) 0) l (low-four n t l (k .1) .0) (low-four n t l (k .1) .1)
+    (emitted ws at n b (between (pageOf n t) (pageOf n a)) p ws′ (k .0) .there)

@@ -11,6 +11,7 @@ use lib.Dec.{eqb}
 use lib.Pow.{pow-pos}
 use Rattle.words.specs.Said.{Said, ok, no}
 use Rattle.words.specs.Listed.{packed}
+use Rattle.words.specs.declared.Place.{Place}
 use Rattle.words.proofs.Answers.{Short, list-back, not-both}
 use Rattle.displacements.specs.Answer.{targetSaid, lowOf, carrying, carried}
 use Rattle.displacements.specs.Private.{putTo}
@@ -37,16 +38,20 @@ module _ (n t : ℕ) where
 -- ---- a word by value and its low bits, put by a writer
 
 -- what a writer says of the words, and the low bits beside it
-pub beside : (l : Option ℕ) (s : Said ℕ) (y : Said (ℕ × Option ℕ)) (ws : List ℕ) (z : Said ℕ × List ℕ) → y ≡ carrying l s → (s, ws) ≡ z → (y, ws) ≡ carried l z
-beside l s y ws z p q = ap (λ (k : Said (ℕ × Option ℕ)). (k, ws)) p ∙ ap (carried l) q
+pub beside : (l : Option ℕ) (s : Said Place) (y : Said (Place × Option ℕ)) (ws : List ℕ) (z : Said Place × List ℕ) → y ≡ carrying l s → (s, ws) ≡ z → (y, ws) ≡ carried l z
+beside l s y ws z p q = ap (λ (k : Said (Place × Option ℕ)). (k, ws)) p ∙ ap (carried l) q
 
--- for either writer, of which all that is known is that a refusal leaves the run
-module _ (put : Said (List ℕ) → Said ℕ × List ℕ) (ws : List ℕ) (kept : (n : ℕ) → put (no n) ≡ (no n, ws)) where
-  put-to : (l : Option ℕ) (x : Said (List ℕ)) → Short x → putTo put ws (carrying l (packed x)) ≡ carried l (put x)
+-- a refusal has nothing beside it, whatever it would carry
+pub carried-no : {A : Type 0} (l k : Option ℕ) (z : Said A × List ℕ) (n : ℕ) → z .0 ≡ no n → carried l z ≡ carried k z
+carried-no {A} l k z n e = ap (λ (x : Said A). carried l (x, z .1)) e ∙ sym (ap (λ (x : Said A). carried k (x, z .1)) e)
+
+-- for either writer, of which all that is known is that it refuses what is refused
+module _ (put : Said (List ℕ) → Said Place × List ℕ) (refuses : (n : ℕ) → (m : ℕ) × (put (no n) .0 ≡ no m)) where
+  put-to : (l : Option ℕ) (x : Said (List ℕ)) → Short x → putTo put (carrying l (packed x)) ≡ carried l (put x)
   put-to l (ok vs) h = ap (λ (us : List ℕ). carried l (put (ok us))) (list-back vs h)
-  put-to l (no n) h = sym (ap (carried l) (kept n))
+  put-to l (no n) h = carried-no none l (put (no n)) (refuses n .0) (refuses n .1)
 
-  pub put-target : (n b t a : ℕ) → putTo put ws (carrying (lowOf n t) (packed (targetSaid n b t a))) ≡ carried (lowOf n t) (put (targetSaid n b t a))
+  pub put-target : (n b t a : ℕ) → putTo put (carrying (lowOf n t) (packed (targetSaid n b t a))) ≡ carried (lowOf n t) (put (targetSaid n b t a))
   put-target n b t a = put-to (lowOf n t) (targetSaid n b t a) (target-short n b t a)
 
 -- ---- and back
@@ -58,10 +63,10 @@ module _ {A : Type 0} (l : Option ℕ) where
       (ap (λ (k : A × Option ℕ). ok (k .0)) same, ap (λ (k : A × Option ℕ). k .1) same)
   carrying-parts (no n) x l′ e = absurd (not-both (sym e))
 
-pub carried-parts : (l : Option ℕ) (z : Said ℕ × List ℕ) (p : ℕ) (l′ : Option ℕ) (ws : List ℕ) → (ok (p, l′), ws) ≡ carried l z → ((ok p, ws) ≡ z) × (l ≡ l′)
+pub carried-parts : (l : Option ℕ) (z : Said Place × List ℕ) (p : Place) (l′ : Option ℕ) (ws : List ℕ) → (ok (p, l′), ws) ≡ carried l z → ((ok p, ws) ≡ z) × (l ≡ l′)
 carried-parts l z p l′ ws e =
-    let k = carrying-parts l (z .0) p l′ (sym (ap (λ (y : Said (ℕ × Option ℕ) × List ℕ). y .0) e)) in
-    let same : z .1 ≡ ws = sym (ap (λ (y : Said (ℕ × Option ℕ) × List ℕ). y .1) e) in
+    let k = carrying-parts l (z .0) p l′ (sym (ap (λ (y : Said (Place × Option ℕ) × List ℕ). y .0) e)) in
+    let same : z .1 ≡ ws = sym (ap (λ (y : Said (Place × Option ℕ) × List ℕ). y .1) e) in
     (rw (← (k .0), ← same) refl, k .1)
 
 -- low bits are carried at format 4 alone, and are the target's

@@ -12,6 +12,7 @@ use mir.Val.{toZ, ofZ}
 use Rattle.arm.specs.Displacements.{B, Bcond, TBZ, ADR, ADRP, LDR}
 use Rattle.words.specs.Said.{Said, ok, no}
 use Rattle.words.specs.Answer.{numberOf}
+use Rattle.words.specs.declared.Place.{Place}
 use Rattle.words.specs.declared.Words.{Words}
 use Rattle.forms.specs.Form.{hasForm}
 use Rattle.displacements.specs.declared.Form.{Form}
@@ -67,7 +68,7 @@ carrying l (ok x) = ok (x, l)
 carrying l (no n) = no n
 
 -- the same of what a writer says, and the run as it then is
-abbrev pub carried : Option ℕ → Said ℕ × List ℕ → Said (ℕ × Option ℕ) × List ℕ
+abbrev pub carried : {A : Type 0} → Option ℕ → Said A × List ℕ → Said (A × Option ℕ) × List ℕ
 carried l (x, ws) = (carrying l x, ws)
 
 -- the target entry's answer by value says words, and at format 4 low bits
@@ -76,10 +77,10 @@ wordSaid (Word f) = ok (f, none)
 wordSaid (PageWord f l) = ok (f, some (l .0))
 wordSaid (NoWord r) = no (numberOf r)
 
--- and written, a position
-abbrev pub writtenSaid : TargetWritten → Said (ℕ × Option ℕ)
-writtenSaid (Wrote p) = ok (p .0, none)
-writtenSaid (WrotePage p l) = ok (p .0, some (l .0))
+-- and written, a place
+abbrev pub writtenSaid : TargetWritten → Said (Place × Option ℕ)
+writtenSaid (Wrote p) = ok (p, none)
+writtenSaid (WrotePage p l) = ok (p, some (l .0))
 writtenSaid (NotWritten r) = no (numberOf r)
 
 -- ---- reading

@@ -1,8 +1,9 @@
 // Module 7: a signed distance in bytes in the field of a branch, an ADR, an ADRP or an LDR literal, and back.
+use words::Address;
 use words::ByteDistance;
 use words::Opc;
+use words::Place;
 use words::Refusal;
-use words::WordPos;
 use words::Worded;
 use words::Words;
 use words::Written;
@@ -11,6 +12,7 @@ ghost use mathlib.Core.Option.{some, none};
 ghost use Prim.Native.Nat.{_%_, _^_, _<_};
 ghost use Rattle.words.specs.Answer.{said, made};
 ghost use Rattle.words.specs.Listed.{packed};
+ghost use Rattle.words.specs.Place.{addressOf};
 ghost use Rattle.writers.specs.Put.{putOf};
 ghost use Rattle.displacements.specs.Forms.{formOf, fieldIn, putIn};
 ghost use Rattle.displacements.specs.Answer.{placeSaid, dispSaid, pageOf, between, targetSaid, lowOf, carrying, carried, wordSaid, writtenSaid, readSaid, distanceSaid};
@@ -35,10 +37,10 @@ pub enum TargetWord {
     NoWord(Refusal),
 }
 
-// What it answers where it writes: the position just past the word, and for an ADRP the target's low bits too.
+// What it answers where it writes: the place just past the word, and for an ADRP the target's low bits too.
 pub enum TargetWritten {
-    Wrote(WordPos),
-    WrotePage(WordPos, Low12),
+    Wrote(Place),
+    WrotePage(Place, Low12),
     NotWritten(Refusal),
 }
 
@@ -140,23 +142,23 @@ fn page(format: u32, address: u64) -> u64
 }
 
 // The target minus the address, each as the format takes it, modulo 2^64, read as signed.
-fn distance_to(format: u32, target: u64, address: u64) -> ByteDistance
-    ensures { λ r. ⌜ r .0 ≡ between (pageOf format target) (pageOf format address) ⌝ }
+fn distance_to(format: u32, target: Address, address: Address) -> ByteDistance
+    ensures { λ r. ⌜ r .0 ≡ between (pageOf format (target .0)) (pageOf format (address .0)) ⌝ }
 {
-    let apart = std::num::wrapping_sub_u64(page(format, target), page(format, address));
+    let apart = std::num::wrapping_sub_u64(page(format, target.0), page(format, address.0));
     ByteDistance(words::signed_of(apart))
 }
 
-fn low_12(target: u64) -> Low12
-    ensures { λ r. ⌜ r .0 ≡ target % 4096 ⌝ }
+fn low_12(target: Address) -> Low12
+    ensures { λ r. ⌜ r .0 ≡ target .0 % 4096 ⌝ }
 {
-    Low12((target % 4096) as u32)
+    Low12((target.0 % 4096) as u32)
 }
 
 // The word of a base, a target and the address of the instruction, by value: 7, 11, 6, 4, 5. An ADRP never gives 4, and its answer has the target's
 // low bits.
-pub fn disp_target_word(format: u32, base: Opc, target: u64, address: u64) -> TargetWord
-    ensures { λ r. ⌜ wordSaid r ≡ carrying (lowOf format target) (packed (targetSaid format (base .0) target address)) ⌝ }
+pub fn disp_target_word(format: u32, base: Opc, target: Address, address: Address) -> TargetWord
+    ensures { λ r. ⌜ wordSaid r ≡ carrying (lowOf format (target .0)) (packed (targetSaid format (base .0) (target .0) (address .0))) ⌝ }
 {
     let low = low_12(target);
     match disp_word(format, base, distance_to(format, target, address)) {
@@ -171,15 +173,15 @@ pub fn disp_target_word(format: u32, base: Opc, target: u64, address: u64) -> Ta
     }
 }
 
-// The word of a base and a distance at a position: 7, 11, 6, 4, 5, 8.
+// The word of a base and a distance at a place: 15, 7, 11, 6, 4, 5, 8.
 pub fn emit_disp_imm(
     words: &mut [u32],
-    at: WordPos,
+    at: Place,
     format: u32,
     base: Opc,
     distance: ByteDistance,
 ) -> Written
-    ensures { λ r. ⌜ (said r, now (words .exit)) ≡ putOf (now (words .entry)) (at .0) (dispSaid format (base .0) (distance .0)) ⌝ }
+    ensures { λ r. ⌜ (said r, now (words .exit)) ≡ putOf (now (words .entry)) at (dispSaid format (base .0) (distance .0)) ⌝ }
 {
     writers::put(words, at, disp_word(format, base, distance))
 }
@@ -203,22 +205,21 @@ fn wrote_page(w: Written, low: Low12) -> TargetWritten
     }
 }
 
-// The word of a base, a target and the address of the instruction at a position: 7, 11, 6, 4, 5, 8. An ADRP never gives 4, and its answer has the
-// target's low bits.
+// The word of a base and a target at a place, which has the address of the instruction: 15, 7, 11, 6, 4, 5, 8. An ADRP never gives 4, and its answer
+// has the target's low bits.
 pub fn emit_disp_target(
     words: &mut [u32],
-    at: WordPos,
+    at: Place,
     format: u32,
     base: Opc,
-    target: u64,
-    address: u64,
+    target: Address,
 ) -> TargetWritten
-    ensures { λ r. ⌜ (writtenSaid r, now (words .exit)) ≡ carried (lowOf format target) (putOf (now (words .entry)) (at .0) (targetSaid format (base .0) target address)) ⌝ }
+    ensures { λ r. ⌜ (writtenSaid r, now (words .exit)) ≡ carried (lowOf format (target .0)) (putOf (now (words .entry)) at (targetSaid format (base .0) (target .0) (addressOf at))) ⌝ }
 {
-    match disp_target_word(format, base, target, address) {
+    match disp_target_word(format, base, target, words::address_of(at)) {
         TargetWord::Word(w) => wrote(writers::put(words, at, Worded::Made(w))),
         TargetWord::PageWord(w, low) => wrote_page(writers::put(words, at, Worded::Made(w)), low),
-        TargetWord::NoWord(r) => TargetWritten::NotWritten(r),
+        TargetWord::NoWord(r) => wrote(writers::put(words, at, Worded::Not(r))),
     }
 }
 

@@ -1,10 +1,11 @@
 -- Demand 2 at the host's boundary: what stands in the bytes after a call, by the entry's own contract and taken as words, does what was asked: run
 -- by Arm, decoded by Arm, read by the reader. And a refusal is one of the refusals' numbers. Assumes nothing.
-use mathlib.Core.Path.{_≡_, sym, ap, _∙_, subst}
+use mathlib.Core.Path.{_≡_, refl, sym, ap, _∙_, subst}
 use mathlib.Core.Bool.{Bool}
+use mathlib.Core.Logic.{_⊎_, inl, inr}
 use mathlib.Core.List.{List, [], _∷_}
 use mathlib.Core.Option.{Option, some, none}
-use Prim.Native.Nat.{ℕ, _+_, _*_, _^_, _%_, _≤_, _<_}
+use Prim.Native.Nat.{ℕ, _+_, _*_, _^_, _%_, _<_}
 use native.Mathlib.Omega.{arith}
 use contract.Lifetimes.{Lfts}
 use denote.Ref.{RefT, now}
@@ -12,10 +13,12 @@ use lib.IntN.{ℤ, pos}
 use lib.Seq.{slice}
 use Rattle.arm.specs.MoveWide.{Regs, write, run}
 use Rattle.words.specs.Said.{Said, ok, no}
-use Rattle.words.specs.Answer.{lastNumber}
-use Rattle.words.proofs.Answers.{Alone, alone-word}
-use Rattle.writers.specs.Put.{wordsIn, putBytesOf}
-use Rattle.writers.proofs.Writes.{words-back}
+use Rattle.words.specs.Answer.{IsNumber}
+use Rattle.words.specs.Place.{placeAt, posOf, addressOf, Aligned}
+use Rattle.words.specs.declared.Place.{Place}
+use Rattle.words.proofs.Answers.{Alone, alone-word, number-fits}
+use Rattle.writers.specs.Put.{wordsIn, putBytesAt, atBase, putBytesOf}
+use Rattle.writers.proofs.Writes.{Answer, words-back, bytes-before}
 use Rattle.logical.specs.Answer.{Decodes, Encoded}
 use Rattle.logical.specs.declared.LogicalImm.{LogicalImm}
 use Rattle.logical_words.specs.Word.{wordOf}
@@ -27,13 +30,13 @@ use Rattle.moves.proofs.Demands.{mov-said}
 use Rattle.patchable_moves.specs.Patchable.{patchSaid}
 use Rattle.patchable_moves.proofs.Demands.{patch-said}
 use Rattle.forms.specs.Form.{formSaid}
-use Rattle.displacements.specs.Answer.{dispSaid, pageOf, between, targetSaid, lowOf, carrying, readSaid, offset}
-use Rattle.displacements.proofs.Demands.{form-yes, read-back, arrives}
+use Rattle.displacements.specs.Answer.{dispSaid, pageOf, between, targetSaid, lowOf, carrying, carried, readSaid, offset}
+use Rattle.displacements.proofs.Demands.{form-yes, read-back, arrives, address-fits, zero-address}
 use Rattle.displacements.proofs.Answers.{alone}
 use Rattle.displacements.proofs.Targets.{low-page}
 use Rattle.displacements.proofs.Pages.{Paged, paged-at}
-use Rattle.host.specs.Number.{refusalIn, valueIn, Reads, lowBits, countedTo, lowIn, wordsFrom, wordAt, spelled, yesNo}
-use Rattle.host.proofs.Demands.{Sane, Low, low-none, target-low, Called, CalledTo, plainly, reads-to, stands-to, move-sane, patchable-sane, displacement-sane, word-sane, fields-read, form-read, distance-read}
+use Rattle.host.specs.Number.{refusalIn, valueIn, Reads, lowBits, countedTo, hostToOf, hostPutTo, lowIn, wordsFrom, wordAt, spelled, yesNo}
+use Rattle.host.proofs.Demands.{Sane, Low, low-none, target-low, Called, CalledTo, plainly, fifteen, fifteen-to, reads-to, stands-to, move-sane, patchable-sane, displacement-sane, word-sane, fields-read, form-read, distance-read}
 use Rattle.host.proofs.vaimalofo_move.Reads as move
 use Rattle.host.proofs.vaimalofo_patchable_move.Reads as patchable-move
 use Rattle.host.proofs.vaimalofo_logical_fields.Reads as logical-fields
@@ -43,10 +46,13 @@ use Rattle.host.proofs.vaimalofo_displacement_to.Reads as displacement-
 use Rattle.host.proofs.vaimalofo_has_form.Reads as has-form
 use Rattle.host.proofs.vaimalofo_read_displacement.Reads as read-displacement
 
--- a refusal is 1 to the last number, and 0 where there is none
-in-range : (n : ℕ) (a : Said ℤ) → Reads n a → refusalIn n ≤ lastNumber
-in-range n (ok v) r = omega (arith, r .0)
-in-range n (no m) r = omega (arith, r .0 .1, r .1)
+-- a refusal is one of the refusals' numbers, and 0 where there is none
+abbrev pub Refusals : ℕ → Type 0
+Refusals n = (refusalIn n ≡ 0) ⊎ IsNumber (refusalIn n)
+
+known : (n : ℕ) (a : Said ℤ) → Reads n a → Refusals n
+known n (ok v) r = inl (r .0)
+known n (no m) r = inr (subst IsNumber (sym (r .1)) (r .0))
 
 -- the test, asked for a word at a format, says yes and refuses nothing
 abbrev pub Instruction : (word format : ℕ) → Type 0
@@ -67,28 +73,31 @@ reads-back word format base distance e k answer p =
 
 -- ---- any call that wrote
 
-module _ (l : List ℕ) (at n : ℕ) (l′ : List ℕ) (x : Said (List ℕ)) (h : Sane x) where
+module _ (l : List ℕ) (at : Place) (n : ℕ) (l′ : List ℕ) (x : Said (List ℕ)) (h : Sane x) where
   -- the words asked for are those that a host finds
-  found-to : (low : Option ℕ) → Low low → CalledTo l at n l′ low x → refusalIn n ≡ 0 → x ≡ ok (wordsFrom n at l′)
+  found-to : (low : Option ℕ) → Low low → CalledTo l at n l′ low x → refusalIn n ≡ 0 → x ≡ ok (wordsFrom n (posOf at) l′)
   found-to low f e z =
       let s = stands-to l at n l′ low x f h e z in
-      s .1 ∙ ap ok (sym (ap (λ (k : ℕ). wordsIn (slice (at * 4) ((at + k) * 4) l′)) (s .2 .count) ∙ ap wordsIn (s .2 .words) ∙ words-back (s .0)))
+      s .1 ∙ ap ok (sym (ap (λ (k : ℕ). wordsIn (slice (posOf at * 4) ((posOf at + k) * 4) l′)) (s .2 .count) ∙ ap wordsIn (s .2 .words) ∙ words-back (s .0)))
 
-  refusal-to : (low : Option ℕ) → Low low → CalledTo l at n l′ low x → refusalIn n ≤ lastNumber
-  refusal-to low f e = in-range n (countedTo at (carrying low (putBytesOf l at x .0))) (reads-to l at n l′ low x f h e)
+  refusal-to : (low : Option ℕ) → Low low → CalledTo l at n l′ low x → Refusals n
+  refusal-to low f e = known n (countedTo at (carrying low (putBytesOf l at x .0))) (reads-to l at n l′ low x f h e)
 
   module _ (e : Called l at n l′ x) where
-    found : refusalIn n ≡ 0 → x ≡ ok (wordsFrom n at l′)
+    found : refusalIn n ≡ 0 → x ≡ ok (wordsFrom n (posOf at) l′)
     found = found-to none low-none (plainly l at n l′ x e)
 
     -- one word
-    found-one : Alone x → refusalIn n ≡ 0 → x ≡ ok (wordAt n at l′ ∷ [])
-    found-one a z = alone-word x (wordsFrom n at l′) a (found z)
+    found-one : Alone x → refusalIn n ≡ 0 → x ≡ ok (wordAt n (posOf at) l′ ∷ [])
+    found-one a z = alone-word x (wordsFrom n (posOf at) l′) a (found z)
 
-    refusal : refusalIn n ≤ lastNumber
+    refusal : Refusals n
     refusal = refusal-to none low-none (plainly l at n l′ x e)
 
-module _ (k : Lfts 1) (bytes bytes′ : RefT (List ℕ)) (position answer : ℕ) where
+module _ (k : Lfts 1) (bytes bytes′ : RefT (List ℕ)) (base-address position answer : ℕ) where
+  abbrev at : Place
+  at = placeAt base-address position
+
   abbrev l : List ℕ
   l = now bytes
 
@@ -97,60 +106,77 @@ module _ (k : Lfts 1) (bytes bytes′ : RefT (List ℕ)) (position answer : ℕ)
 
   -- ---- moves: "run from any old content of registers 0 to 30, leaves the asked value in all 64 bits and the other registers alone"
 
-  module _ (value register : ℕ) (p : move.Post k (bytes, (position, (value, (register, tt)))) answer (bytes′, (position, (value, (register, tt))))) where
+  module _ (value register : ℕ)
+      (p : move.Post k (bytes, (base-address, (position, (value, (register, tt))))) answer (bytes′, (base-address, (position, (value, (register, tt)))))) where
     pub move-runs : refusalIn answer ≡ 0 → value < 2 ^ 64 → (R : Regs) → run (wordsFrom answer position l′) R ≡ some (write R register value)
     move-runs z v-is R =
-        mov-said value register v-is R (wordsFrom answer position l′) (found l position answer l′ (movSaid value register) (move-sane value register) p z)
+        mov-said value register v-is R (wordsFrom answer position l′) (found l at answer l′ (movSaid value register) (move-sane value register) p z)
 
-    pub move-refusal : refusalIn answer ≤ lastNumber
-    move-refusal = refusal l position answer l′ (movSaid value register) (move-sane value register) p
+    pub move-refusal : Refusals answer
+    move-refusal = refusal l at answer l′ (movSaid value register) (move-sane value register) p
+
+    -- "15 is tested first"
+    pub move-15 : (Aligned at → ⊥) → (answer ≡ 15) × (l′ ≡ l)
+    move-15 = fifteen l at answer l′ (movSaid value register) p
 
   module _ (value size register : ℕ)
-      (p : patchable-move.Post k (bytes, (position, (value, (size, (register, tt))))) answer (bytes′, (position, (value, (size, (register, tt)))))) where
+      (p : patchable-move.Post k (bytes, (base-address, (position, (value, (size, (register, tt)))))) answer (bytes′, (base-address, (position, (value, (size, (register, tt))))))) where
     pub patchable-move-runs : refusalIn answer ≡ 0 → value < 2 ^ 64 → (R : Regs) → run (wordsFrom answer position l′) R ≡ some (write R register (value % 2 ^ size))
     patchable-move-runs z v-is R =
         patch-said value size register v-is R (wordsFrom answer position l′)
-        (found l position answer l′ (patchSaid value size register) (patchable-sane value size register) p z)
+        (found l at answer l′ (patchSaid value size register) (patchable-sane value size register) p z)
 
-    pub patchable-move-refusal : refusalIn answer ≤ lastNumber
-    patchable-move-refusal = refusal l position answer l′ (patchSaid value size register) (patchable-sane value size register) p
+    pub patchable-move-refusal : Refusals answer
+    patchable-move-refusal = refusal l at answer l′ (patchSaid value size register) (patchable-sane value size register) p
+
+    pub patchable-move-15 : (Aligned at → ⊥) → (answer ≡ 15) × (l′ ≡ l)
+    patchable-move-15 = fifteen l at answer l′ (patchSaid value size register) p
 
   -- ---- the logical word: decoded by Arm, it is the operation on the low bits of the value
 
   module _ (operation value width rn rd : ℕ)
-      (p : logical-word.Post k (bytes, (position, (operation, (value, (width, (rn, (rd, tt))))))) answer
-      (bytes′, (position, (operation, (value, (width, (rn, (rd, tt)))))))) where
+      (p : logical-word.Post k (bytes, (base-address, (position, (operation, (value, (width, (rn, (rd, tt)))))))) answer
+      (bytes′, (base-address, (position, (operation, (value, (width, (rn, (rd, tt))))))))) where
     abbrev said : Said (List ℕ)
     said = wordOf operation width rn rd (p .0)
 
     pub logical-word-means : refusalIn answer ≡ 0 → Means (wordAt answer position l′) operation value width rn rd
     logical-word-means z =
         word-means operation value width rn rd (wordAt answer position l′) (p .0) (p .1)
-        (found-one l position answer l′ said (word-sane operation width value rn rd (p .0) (p .1)) (p .2) (word-alone operation width rn rd (p .0)) z)
+        (found-one l at answer l′ said (word-sane operation width value rn rd (p .0) (p .1)) (p .2) (word-alone operation width rn rd (p .0)) z)
 
-    pub logical-word-refusal : refusalIn answer ≤ lastNumber
-    logical-word-refusal = refusal l position answer l′ said (word-sane operation width value rn rd (p .0) (p .1)) (p .2)
+    pub logical-word-refusal : Refusals answer
+    logical-word-refusal = refusal l at answer l′ said (word-sane operation width value rn rd (p .0) (p .1)) (p .2)
+
+    pub logical-word-15 : (Aligned at → ⊥) → (answer ≡ 15) × (l′ ≡ l)
+    logical-word-15 = fifteen l at answer l′ said (p .2)
 
   -- ---- displacements: what was written, the reader reads
 
   module _ (format base : ℕ) (distance : ℤ)
-      (p : displacement.Post k (bytes, (position, (format, (base, (distance, tt))))) answer (bytes′, (position, (format, (base, (distance, tt)))))) where
+      (p : displacement.Post k (bytes, (base-address, (position, (format, (base, (distance, tt)))))) answer (bytes′, (base-address, (position, (format, (base, (distance, tt))))))) where
     pub displacement-read : refusalIn answer ≡ 0 → Read (wordAt answer position l′) format distance
     displacement-read z =
         reads-back (wordAt answer position l′) format base distance
-        (found-one l position answer l′ (dispSaid format base distance) (displacement-sane format base distance) p (alone format base distance) z)
+        (found-one l at answer l′ (dispSaid format base distance) (displacement-sane format base distance) p (alone format base distance) z)
 
     -- and the word is an instruction of the format, as its base
     pub displacement-formed : refusalIn answer ≡ 0 → Instruction (wordAt answer position l′) format
     displacement-formed z =
         formed (wordAt answer position l′) format base distance
-        (found-one l position answer l′ (dispSaid format base distance) (displacement-sane format base distance) p (alone format base distance) z)
+        (found-one l at answer l′ (dispSaid format base distance) (displacement-sane format base distance) p (alone format base distance) z)
 
-    pub displacement-refusal : refusalIn answer ≤ lastNumber
-    displacement-refusal = refusal l position answer l′ (dispSaid format base distance) (displacement-sane format base distance) p
+    pub displacement-refusal : Refusals answer
+    displacement-refusal = refusal l at answer l′ (dispSaid format base distance) (displacement-sane format base distance) p
 
-  module _ (format base target address : ℕ)
-      (p : displacement-to.Post k (bytes, (position, (format, (base, (target, (address, tt)))))) answer (bytes′, (position, (format, (base, (target, (address, tt))))))) where
+    pub displacement-15 : (Aligned at → ⊥) → (answer ≡ 15) × (l′ ≡ l)
+    displacement-15 = fifteen l at answer l′ (dispSaid format base distance) p
+
+  module _ (format base target : ℕ)
+      (p : displacement-to.Post k (bytes, (base-address, (position, (format, (base, (target, tt)))))) answer (bytes′, (base-address, (position, (format, (base, (target, tt))))))) where
+    abbrev address : ℕ
+    address = addressOf at
+
     abbrev apart : ℤ
     apart = between (pageOf format target) (pageOf format address)
 
@@ -160,7 +186,7 @@ module _ (k : Lfts 1) (bytes bytes′ : RefT (List ℕ)) (position answer : ℕ)
     there : refusalIn answer ≡ 0 → targetSaid format base target address ≡ ok (wordAt answer position l′ ∷ [])
     there z =
         alone-word (dispSaid format base apart) (wordsFrom answer position l′) (alone format base apart)
-        (found-to l position answer l′ (dispSaid format base apart) (displacement-sane format base apart) low (target-low format target) p z)
+        (found-to l at answer l′ (dispSaid format base apart) (displacement-sane format base apart) low (target-low format target) p z)
 
     pub displacement-to-read : refusalIn answer ≡ 0 → Read (wordAt answer position l′) format apart
     displacement-to-read z = reads-back (wordAt answer position l′) format base apart (there z)
@@ -169,23 +195,35 @@ module _ (k : Lfts 1) (bytes bytes′ : RefT (List ℕ)) (position answer : ℕ)
     displacement-to-formed z = formed (wordAt answer position l′) format base apart (there z)
 
     -- and by Arm's reading the instruction arrives at the target, an ADRP at its page
-    pub displacement-to-arrives : refusalIn answer ≡ 0 → target < 2 ^ 64 → address < 2 ^ 64
+    pub displacement-to-arrives : refusalIn answer ≡ 0 → target < 2 ^ 64
         → (pageOf format address + offset format (wordAt answer position l′)) % 2 ^ 64 ≡ pageOf format target
-    displacement-to-arrives z ht ha = arrives format base target address (wordAt answer position l′) ht ha (there z)
+    displacement-to-arrives z ht = arrives format base target address (wordAt answer position l′) ht (address-fits at) (there z)
 
     -- the low bits in the answer: the target's at format 4, and 0 elsewhere
     pub displacement-to-low : refusalIn answer ≡ 0 → lowIn answer ≡ lowBits low
     displacement-to-low z =
-        stands-to l position answer l′ low (dispSaid format base apart) (target-low format target) (displacement-sane format base apart) p z .2 .bits
+        stands-to l at answer l′ low (dispSaid format base apart) (target-low format target) (displacement-sane format base apart) p z .2 .bits
 
     -- with them the page that Arm computes from the ADRP is the target
-    pub displacement-to-paged : refusalIn answer ≡ 0 → format ≡ 4 → target < 2 ^ 64 → address < 2 ^ 64 → Paged target address (wordAt answer position l′) (lowIn answer)
-    displacement-to-paged z four ht ha =
+    pub displacement-to-paged : refusalIn answer ≡ 0 → format ≡ 4 → target < 2 ^ 64 → Paged target address (wordAt answer position l′) (lowIn answer)
+    displacement-to-paged z four ht =
         let bits : lowIn answer ≡ target % 4096 = displacement-to-low z ∙ ap lowBits (low-page format target four) in
-        paged-at format base target address ht ha (wordAt answer position l′) (lowIn answer) four bits (there z)
+        paged-at format base target address ht (address-fits at) (wordAt answer position l′) (lowIn answer) four bits (there z)
 
-    pub displacement-to-refusal : refusalIn answer ≤ lastNumber
-    displacement-to-refusal = refusal-to l position answer l′ (dispSaid format base apart) (displacement-sane format base apart) low (target-low format target) p
+    pub displacement-to-refusal : Refusals answer
+    displacement-to-refusal = refusal-to l at answer l′ (dispSaid format base apart) (displacement-sane format base apart) low (target-low format target) p
+
+    pub displacement-to-15 : (Aligned at → ⊥) → (answer ≡ 15) × (l′ ≡ l)
+    displacement-to-15 = fifteen-to l at answer l′ low (dispSaid format base apart) p
+
+    -- "At base 0 no word changes, where the address given to the target entry was four times the position": what was said before of that address
+    pub displacement-to-zero : base-address ≡ 0 → 4 * position < 2 ^ 64
+        → (answer, l′) ≡ hostToOf (placeAt 0 position) (carried low (atBase (record { 0 = 0 }) (putBytesAt l position (targetSaid format base target (4 * position)))))
+    displacement-to-zero z h =
+        p
+        ∙ ap (λ (b : ℕ). hostPutTo l (placeAt b position) low (targetSaid format base target (addressOf (placeAt b position)))) z
+        ∙ ap (λ (y : Answer). hostToOf (placeAt 0 position) (carried low y)) (bytes-before l (placeAt 0 position) (targetSaid format base target (addressOf (placeAt 0 position))) refl)
+        ∙ ap (λ (a : ℕ). hostToOf (placeAt 0 position) (carried low (atBase (record { 0 = 0 }) (putBytesAt l position (targetSaid format base target a))))) (zero-address position h)
 
 -- ---- those that write nothing
 
@@ -198,13 +236,13 @@ module _ (k : Lfts 0) (answer : ℕ) where
       go : (a : Said LogicalImm) → Encoded width value a → Reads answer (spelled a)
           → (f : LogicalImm) × (valueIn answer ≡ pos (f .n * 2 ^ 16 + f .s * 2 ^ 8 + f .r)) × Decodes width (f .n) (f .s) (f .r) (value % 2 ^ width)
       go (ok f) e r = (f, r .1, e .1)
-      go (no n) e r = absurd (omega (arith, z, r .0 .0, r .1))
+      go (no n) e r = absurd (omega (arith, z, number-fits (r .0) .0, r .1))
 
-  pub logical-fields-refusal : (value width : ℕ) → logical-fields.Post k (value, (width, tt)) answer (value, (width, tt)) → refusalIn answer ≤ lastNumber
-  logical-fields-refusal value width p = in-range answer (spelled (p .0)) (fields-read width value answer (p .0) (p .1) (p .2))
+  pub logical-fields-refusal : (value width : ℕ) → logical-fields.Post k (value, (width, tt)) answer (value, (width, tt)) → Refusals answer
+  logical-fields-refusal value width p = known answer (spelled (p .0)) (fields-read width value answer (p .0) (p .1) (p .2))
 
-  pub has-form-refusal : (format word : ℕ) → has-form.Post k (format, (word, tt)) answer (format, (word, tt)) → refusalIn answer ≤ lastNumber
-  has-form-refusal format word p = in-range answer (yesNo (formSaid format word)) (form-read format word answer p)
+  pub has-form-refusal : (format word : ℕ) → has-form.Post k (format, (word, tt)) answer (format, (word, tt)) → Refusals answer
+  has-form-refusal format word p = known answer (yesNo (formSaid format word)) (form-read format word answer p)
 
-  pub read-displacement-refusal : (word format : ℕ) → read-displacement.Post k (word, (format, tt)) answer (word, (format, tt)) → refusalIn answer ≤ lastNumber
-  read-displacement-refusal word format p = in-range answer (readSaid word format) (distance-read word format answer p)
+  pub read-displacement-refusal : (word format : ℕ) → read-displacement.Post k (word, (format, tt)) answer (word, (format, tt)) → Refusals answer
+  read-displacement-refusal word format p = known answer (readSaid word format) (distance-read word format answer p)

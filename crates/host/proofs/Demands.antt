@@ -1,26 +1,30 @@
 -- What a host reads and finds after a call of each entry, over the definitions that the contracts cite. Assumes nothing.
-use mathlib.Core.Path.{_≡_, refl, sym, ap, subst⁻¹, _∙_}
+use mathlib.Core.Path.{_≡_, refl, sym, ap, subst, subst⁻¹, _∙_}
 use mathlib.Core.Logic.{_⊎_, ⊎-elim}
 use mathlib.Core.Bool.{Bool, true, false, cond, not, _||_}
 use mathlib.Core.List.{List}
 use mathlib.Core.Option.{Option, some, none}
-use Prim.Native.Nat.{ℕ, _+_, _-_, _*_, _/_, _%_, _^_, _≤_, _<_}
+use Prim.Native.Nat.{ℕ, _+_, _-_, _*_, _%_, _^_, _≤_, _<_}
 use native.Mathlib.Nat.{mod-lt, lt-of-lt-of-le}
 use native.Mathlib.Omega.{arith}
 use borrow.Author.Tests.{ltb-false}
-use lib.Dec.{leb, ltb, eqb}
+use lib.Dec.{ltb, eqb}
 use lib.IntN.{ℤ}
 use lib.ListN.{length, getD}
 use lib.Pow.{pow-mono, pow-pos}
-use lib.Seq.{sets, slice}
+use lib.Seq.{slice}
 use lib.Signed.{mag}
 use mir.Syntax.{w64}
 use mir.Val.{toZ}
 use Rattle.words.specs.Said.{Said, ok, no}
 use Rattle.words.specs.Answer.{IsNumber}
+use Rattle.words.specs.Place.{posOf, Aligned}
+use Rattle.words.specs.declared.Place.{Place}
+use Rattle.words.specs.declared.Refusal.the-variants.{Width, Register, NoField, Unknown, NoRoom, Unaligned}
 use Rattle.writers.specs.Put.{allBytes, putBytesOf}
-use Rattle.words.proofs.Answers.{Alone, Numbered, not-both}
-use Rattle.writers.proofs.Writes.{bytes-refused, bytes-written, bytes-others, bytes-done}
+use Rattle.writers.specs.Says.{unaligned, refused, full, done, PutsBytes}
+use Rattle.words.proofs.Answers.{Alone, Numbered, number-fits}
+use Rattle.writers.proofs.Writes.{Answer, bytes-says, bytes-15, bytes-refused, bytes-written, bytes-others, bytes-done}
 use Rattle.moves.specs.Moves.{movSaid}
 use Rattle.moves.proofs.Lengths.{mov-by, mov-some}
 use Rattle.patchable_moves.specs.Patchable.{patchSaid}
@@ -34,7 +38,7 @@ use Rattle.displacements.specs.Answer.{dispSaid, lowOf, carrying, carried, read
 use Rattle.displacements.specs.Forms.{formOf, fieldIn, step}
 use Rattle.displacements.proofs.Answers.{alone, numbered}
 use Rattle.displacements.proofs.Laws.{sound, arm-reads, offset-lt}
-use Rattle.host.specs.Number.{told, refusalIn, Reads, counted, hostOf, lowBits, countedTo, hostToOf, countIn, lowIn, spelled, yesNo}
+use Rattle.host.specs.Number.{told, refusalIn, Reads, counted, hostPut, lowBits, countedTo, hostToOf, hostPutTo, countIn, lowIn, spelled, yesNo}
 use Rattle.host.proofs.Laws.{counted-none, hosted-none}
 use Rattle.host.proofs.Reading.{Small, told-reads, told-parts, extended-mag}
 
@@ -59,26 +63,22 @@ target-low n t = go (eqb n 4)
     go true = mod-lt t (pow-pos 12)
     go false = omega arith
 
-put-small : (l : List ℕ) (at : ℕ) (low : Option ℕ) (x : Said (List ℕ)) → Low low → Sane x → Small (countedTo at (carrying low (putBytesOf l at x .0)))
-unfolding putBytesOf
-put-small l at low (ok vs) f h = go (leb (at + length vs) (length l / 4))
+put-small : (l : List ℕ) (at : Place) (low : Option ℕ) (x : Said (List ℕ)) → Low low → Sane x → Small (countedTo at (carrying low (putBytesOf l at x .0)))
+put-small l at low x f h = go (bytes-says l at x)
   where
-    go : (b : Bool) → Small (countedTo at (carrying low (cond {A = Said ℕ × List ℕ} b (ok (at + length vs), sets l (at * 4) (allBytes vs)) (no 8, l) .0)))
-    go true = omega arith
-    go false = omega arith
-put-small l at low (no n) f h = h
+    go : {z : Answer} → PutsBytes l at x z → Small (countedTo at (carrying low (z .0)))
+    go (unaligned o) = (Unaligned, refl)
+    go (refused n a e) = subst Sane e h
+    go (full vs a e o) = (NoRoom, refl)
+    go (done vs a e o) = let s : length vs ≤ 4 = subst Sane e h in omega arith
 
-not-done : (l : List ℕ) (at m p : ℕ) {k : List ℕ} → putBytesOf l at (no m) ≡ (ok p, k) → ⊥
-unfolding putBytesOf
-not-done l at m p e = not-both (sym (ap (λ (y : Said ℕ × List ℕ). y .0) e))
-
-module _ (l : List ℕ) (at n : ℕ) (l′ : List ℕ) where
+module _ (l : List ℕ) (at : Place) (n : ℕ) (l′ : List ℕ) where
   -- the call answered n and left l′; of a target's words, with low bits
   abbrev pub Called : Said (List ℕ) → Type 0
-  Called x = (n, l′) ≡ hostOf at (putBytesOf l at x)
+  Called x = (n, l′) ≡ hostPut l at x
 
   abbrev pub CalledTo : Option ℕ → Said (List ℕ) → Type 0
-  CalledTo low x = (n, l′) ≡ hostToOf at (carried low (putBytesOf l at x))
+  CalledTo low x = (n, l′) ≡ hostPutTo l at low x
 
   pub plainly : (x : Said (List ℕ)) → Called x → CalledTo none x
   plainly x e = hosted-none l at x e
@@ -99,39 +99,49 @@ module _ (l : List ℕ) (at n : ℕ) (l′ : List ℕ) where
   pub kept-to : (low : Option ℕ) (x : Said (List ℕ)) → CalledTo low x → (refusalIn n ≡ 0 → ⊥) → l′ ≡ l
   kept-to low x e h = go (putBytesOf l at x) refl (ap (λ (y : ℕ × List ℕ). y .0) e) (left low x e)
     where
-      go : (y : Said ℕ × List ℕ) → putBytesOf l at x ≡ y → n ≡ told (countedTo at (carrying low (y .0))) → l′ ≡ y .1 → l′ ≡ l
+      go : (y : Answer) → putBytesOf l at x ≡ y → n ≡ told (countedTo at (carrying low (y .0))) → l′ ≡ y .1 → l′ ≡ l
       go (ok p, k) q r s = absurd (h (omega arith))
-      go (no m, k) q r s = s ∙ bytes-refused l at k x m (sym q)
+      go (no m, k) q r s = s ∙ bytes-refused l at x k m (sym q)
 
   pub kept : (x : Said (List ℕ)) → Called x → (refusalIn n ≡ 0 → ⊥) → l′ ≡ l
   kept x e = kept-to none x (plainly x e)
+
+  -- "15 is tested first": with a base that is no multiple of 4 the number is 15, whatever is asked for, and every byte is as before
+  pub fifteen-to : (low : Option ℕ) (x : Said (List ℕ)) → CalledTo low x → (Aligned at → ⊥) → (n ≡ 15) × (l′ ≡ l)
+  fifteen-to low x e h =
+      let y = e ∙ ap (λ (z : Answer). hostToOf at (carried low z)) (bytes-15 l at x h) in
+      (ap (λ (z : ℕ × List ℕ). z .0) y, ap (λ (z : ℕ × List ℕ). z .1) y)
+
+  pub fifteen : (x : Said (List ℕ)) → Called x → (Aligned at → ⊥) → (n ≡ 15) × (l′ ≡ l)
+  fifteen x e = fifteen-to none x (plainly x e)
 
   -- without one, the words asked for stand from the position on, as many as the number says, and the low bits are those that are carried; every
   -- other byte is as before, the tail too
   pub record Stands (low : Option ℕ) (vs : List ℕ) : Type 0 where
     pub count : countIn n ≡ length vs
     pub bits : lowIn n ≡ lowBits low
-    pub words : slice (at * 4) ((at + length vs) * 4) l′ ≡ allBytes vs
-    pub others : (k : ℕ) → (k < at * 4) ⊎ ((at + length vs) * 4 ≤ k) → getD l′ k 0 ≡ getD l k 0
+    pub words : slice (posOf at * 4) ((posOf at + length vs) * 4) l′ ≡ allBytes vs
+    pub others : (k : ℕ) → (k < posOf at * 4) ⊎ ((posOf at + length vs) * 4 ≤ k) → getD l′ k 0 ≡ getD l k 0
 
   pub stands-to : (low : Option ℕ) (x : Said (List ℕ)) → Low low → Sane x → CalledTo low x → refusalIn n ≡ 0 → (vs : List ℕ) × (x ≡ ok vs) × Stands low vs
-  stands-to low x f h e z = go x h (putBytesOf l at x) refl (ap (λ (y : ℕ × List ℕ). y .0) e) (reads-to low x f h e) (left low x e)
+  stands-to low x f h e z = go (putBytesOf l at x) refl (ap (λ (y : ℕ × List ℕ). y .0) e) (reads-to low x f h e) (left low x e)
     where
-      go : (x : Said (List ℕ)) → Sane x → (y : Said ℕ × List ℕ) → putBytesOf l at x ≡ y → n ≡ told (countedTo at (carrying low (y .0)))
+      go : (y : Answer) → putBytesOf l at x ≡ y → n ≡ told (countedTo at (carrying low (y .0)))
           → Reads n (countedTo at (carrying low (y .0))) → l′ ≡ y .1 → (vs : List ℕ) × (x ≡ ok vs) × Stands low vs
-      go x h (no m, k) q i r s = absurd (omega (arith, r .0 .0, r .1))
-      go (no m) h (ok p, k) q i r s = absurd (not-done l at m p q)
-      go (ok vs) h (ok p, k) q i r s =
-          let d = bytes-done l at k vs p (sym q) in
-          let many : p - at ≡ length vs = omega (arith, d .past) in
-          let parts = told-parts n (p - at) (lowBits low) i (omega arith) f in (
-            vs,
-            refl,
+      go (no m, k) q i r s = absurd (omega (arith, number-fits (r .0) .0, r .1))
+      go (ok p, k) q i r s =
+          let d = bytes-done l at x k p (sym q) in
+          let four : length (d .vs) ≤ 4 = subst Sane (d .asked) h in
+          let end : posOf p ≡ posOf at + length (d .vs) = ap posOf (d .past) in
+          let many : posOf p - posOf at ≡ length (d .vs) = omega (arith, end) in
+          let parts = told-parts n (posOf p - posOf at) (lowBits low) i (omega arith) f in (
+            d .vs,
+            d .asked,
             record {
               count = parts .0 ∙ many;
               bits = parts .1;
-              words = rw (s, ← d .past) (bytes-written l at vs p k (sym q));
-              others = λ j o. rw s (bytes-others l at vs p k (sym q) j (rw (← d .past) at o));
+              words = rw (s, ← end) (bytes-written l at x p k (sym q));
+              others = λ j o. rw s (bytes-others l at x p k (sym q) j (rw (← end) at o));
             },
           )
 
@@ -141,10 +151,10 @@ module _ (l : List ℕ) (at n : ℕ) (l′ : List ℕ) where
 -- ---- each entry's words are four at most, and its refusals have numbers
 
 pub move-sane : (v rd : ℕ) → Sane (movSaid v rd)
-move-sane v rd = mov-by v rd Sane (λ h. omega arith) (λ l. mov-some v rd .most)
+move-sane v rd = mov-by v rd Sane (λ h. (Register, refl)) (λ l. mov-some v rd .most)
 
 pub patchable-sane : (v size rd : ℕ) → Sane (patchSaid v size rd)
-patchable-sane v size rd = patch-by v size rd Sane (omega arith) (omega arith) (λ e l. omega (arith, patch64-length v rd)) (λ e l. omega (arith, patch32-length v rd))
+patchable-sane v size rd = patch-by v size rd Sane (Width, refl) (Register, refl) (λ e l. omega (arith, patch64-length v rd)) (λ e l. omega (arith, patch32-length v rd))
 
 -- one word, or a refusal's number
 one-sane : (x : Said (List ℕ)) → Alone x → Numbered x → Sane x
@@ -156,16 +166,16 @@ displacement-sane n b d = one-sane (dispSaid n b d) (alone n b d) (numbered n b 
 
 -- the encoder's numbers are 1 and 3
 number-sane : (w v k : ℕ) → Encoded w v (no k) → IsNumber k
-number-sane w v k h = ⊎-elim (λ a. omega (arith, a .0)) (λ b. omega (arith, b .0)) h
+number-sane w v k h = ⊎-elim (λ a. (Width, sym (a .0))) (λ b. (NoField, sym (b .0))) h
 
 pub word-sane : (operation w v rn rd : ℕ) (a : Said LogicalImm) → Encoded w v a → Sane (wordOf operation w rn rd a)
 unfolding wordOf
 word-sane operation w v rn rd a = go (ltb 3 operation) (not (eqb w 32 || eqb w 64)) (ltb 31 rn || ltb 31 rd) a
   where
     go : (b c d : Bool) (a : Said LogicalImm) → Encoded w v a → Sane (cond b (no 7) (cond c (no 1) (cond d (no 2) (filled (baseOf operation w) rn rd a))))
-    go true c d a h = omega arith
-    go false true d a h = omega arith
-    go false false true a h = omega arith
+    go true c d a h = (Unknown, refl)
+    go false true d a h = (Width, refl)
+    go false false true a h = (Register, refl)
     go false false false (ok f) h = omega arith
     go false false false (no k) h = number-sane w v k h
 
@@ -182,7 +192,7 @@ pub form-read : (n w r : ℕ) → r ≡ told (yesNo (formSaid n w)) → Reads r 
 form-read n w r e = subst⁻¹ (λ (k : ℕ). Reads k (yesNo (formSaid n w))) e (told-reads (yesNo (formSaid n w)) (go (ltb 5 n) (hasForm n w)))
   where
     go : (b v : Bool) → Small (yesNo (cond b (no 7) (ok v)))
-    go true v = omega arith
+    go true v = (Unknown, refl)
     go false true = omega arith
     go false false = omega arith
 
@@ -201,5 +211,5 @@ distance-read w n r e = subst⁻¹ (λ (k : ℕ). Reads k (readSaid w n)) e (tol
         (lt-of-lt-of-le (extended-mag (f .bits + f .scale) (fieldIn f w * step f) (omega (arith, s .some)) (omega arith) (offset-lt f s w)) (pow-mono {j = 55} (omega arith)))
 
     go : (b : Bool) → ltb 5 n ≡ b → Small (cond b (no 7) (ok (toZ w64 (offset n w))))
-    go true q = omega arith
+    go true q = (Unknown, refl)
     go false q = near (omega (arith, ltb-false 5 n q))

@@ -15,6 +15,7 @@ use Rattle.arm.specs.Bits.{SignExtend}
 use Rattle.arm.proofs.SignExtends.{double, extend}
 use Rattle.words.specs.Said.{Said, ok, no}
 use Rattle.words.specs.Answer.{IsNumber}
+use Rattle.words.proofs.Answers.{number-fits}
 use Rattle.host.specs.Number.{told, Reads, countIn, lowIn}
 
 abbrev pub Small : Said ℤ → Type 0
@@ -26,8 +27,9 @@ told-reads (ok v) h =
     let up : ofZ w64 v * 2 ^ 8 % 2 ^ 64 / 2 ^ 8 ≡ ofZ w64 v % 2 ^ 56 = omega arith in
     (omega arith, ap (λ (x : ℕ). toZ w64 (SignExtend 56 x)) up ∙ ap (toZ w64) (extend 56 (omega arith) (omega arith) v h) ∙ toZ-ofZ {w = w64} (record { sfits = omega arith }))
 told-reads (no n) h =
-    let none : n / 2 ^ 8 ≡ 0 = omega (arith, h .1) in
-    (h, omega (arith, h .1), ap (λ (x : ℕ). toZ w64 (SignExtend 56 x)) none)
+    let small = number-fits h .1 in
+    let none : n / 2 ^ 8 ≡ 0 = omega arith in
+    (h, omega arith, ap (λ (x : ℕ). toZ w64 (SignExtend 56 x)) none)
 
 -- a count of words and low bits are read apart
 pub told-parts : (n c l : ℕ) → n ≡ told (ok (pos (c + l * 2 ^ 8))) → c ≤ 4 → l < 4096 → (countIn n ≡ c) × (lowIn n ≡ l)

@@ -12,9 +12,12 @@ use mir.Val.{toZ, ofZ}
 use Rattle.arm.specs.Bits.{SignExtend}
 use Rattle.words.specs.Said.{Said, ok, no}
 use Rattle.words.specs.Answer.{IsNumber}
-use Rattle.writers.specs.Put.{wordsIn}
+use Rattle.words.specs.Place.{posOf}
+use Rattle.words.specs.declared.Place.{Place}
+use Rattle.writers.specs.Put.{wordsIn, putBytesOf}
 use Rattle.logical.specs.Answer.{Encoded}
 use Rattle.logical.specs.declared.LogicalImm.{LogicalImm}
+use Rattle.displacements.specs.Answer.{carried}
 
 -- the value above the low byte, modulo 2 ^ 64; or a refusal's number, which is all of it
 abbrev pub told : Said ℤ → ℕ
@@ -35,26 +38,33 @@ Reads x (no n) = IsNumber n × (refusalIn x ≡ n) × (valueIn x ≡ pos 0)
 
 -- ---- the values
 
--- of a writer from a position on: how many words were written
-abbrev pub counted : ℕ → Said ℕ → Said ℤ
-counted at (ok p) = ok (pos (p - at))
+-- of a writer from a place on: how many words were written
+abbrev pub counted : Place → Said Place → Said ℤ
+counted at (ok p) = ok (pos (posOf p - posOf at))
 counted at (no n) = no n
 
 -- the number of what a writer says, and the bytes as they then are
-abbrev pub hostOf : ℕ → Said ℕ × List ℕ → ℕ × List ℕ
+abbrev pub hostOf : Place → Said Place × List ℕ → ℕ × List ℕ
 hostOf at (x, bs) = (told (counted at x), bs)
+
+-- words asked for at a place of a run of bytes
+abbrev pub hostPut : List ℕ → Place → Said (List ℕ) → ℕ × List ℕ
+hostPut bs at x = hostOf at (putBytesOf bs at x)
 
 -- of the target entry: the same, and 256 times the low bits that are carried, which are 0 where none are
 abbrev pub lowBits : Option ℕ → ℕ
 lowBits none = 0
 lowBits (some l) = l
 
-abbrev pub countedTo : ℕ → Said (ℕ × Option ℕ) → Said ℤ
-countedTo at (ok (p, l)) = ok (pos (p - at + lowBits l * 2 ^ 8))
+abbrev pub countedTo : Place → Said (Place × Option ℕ) → Said ℤ
+countedTo at (ok (p, l)) = ok (pos (posOf p - posOf at + lowBits l * 2 ^ 8))
 countedTo at (no n) = no n
 
-abbrev pub hostToOf : ℕ → Said (ℕ × Option ℕ) × List ℕ → ℕ × List ℕ
+abbrev pub hostToOf : Place → Said (Place × Option ℕ) × List ℕ → ℕ × List ℕ
 hostToOf at (x, bs) = (told (countedTo at x), bs)
+
+abbrev pub hostPutTo : List ℕ → Place → Option ℕ → Said (List ℕ) → ℕ × List ℕ
+hostPutTo bs at l x = hostToOf at (carried l (putBytesOf bs at x))
 
 -- as a host reads them from an answer x without a refusal: bits 8 to 15 how many words were written, bits 16 to 27 the low bits
 abbrev pub countIn : ℕ → ℕ

@@ -2,8 +2,8 @@
 use logical::LogicalAnswer;
 use logical::LogicalImm;
 use words::Opc;
+use words::Place;
 use words::Refusal;
-use words::WordPos;
 use words::Worded;
 use words::Written;
 ghost use mathlib.Core.Path.{_≡_};
@@ -56,17 +56,17 @@ pub fn logical_word(operation: u32, imm: u64, width: u32, rn: u32, rd: u32) -> W
     }
 }
 
-// The logical word of a value, written at a position.
+// The logical word of a value, written at a place: 15, 7, 1, 2, 3, 8.
 pub fn emit_logical_imm(
     words: &mut [u32],
-    at: WordPos,
+    at: Place,
     operation: u32,
     imm: u64,
     width: u32,
     rn: u32,
     rd: u32,
 ) -> Written
-    ensures { λ r. ⌜ ForWord operation imm width rn rd (λ x. (said r, now (words .exit)) ≡ putOf (now (words .entry)) (at .0) x) ⌝ }
+    ensures { λ r. ⌜ ForWord operation imm width rn rd (λ x. (said r, now (words .exit)) ≡ putOf (now (words .entry)) at x) ⌝ }
 {
     writers::put(words, at, logical_word(operation, imm, width, rn, rd))
 }

@@ -1,7 +1,7 @@
 // Module 5: move sequences. Arm's meaning of the words is in the crate arm, the words that are asked for in specs/Moves.antt.
 use words::Opc;
+use words::Place;
 use words::Refusal;
-use words::WordPos;
 use words::Worded;
 use words::Words;
 use words::Written;
@@ -150,9 +150,9 @@ pub fn mov_words(imm: u64, rd: u32) -> Worded
     Worded::Made(long(imm, rd))
 }
 
-// A move, written: the words from the position on, or refusal 2 or 8 with the run unchanged.
-pub fn encode_mov_sequence64(words: &mut [u32], at: WordPos, imm: u64, rd: u32) -> Written
-    ensures { λ r. ⌜ (said r, now (words .exit)) ≡ putOf (now (words .entry)) (at .0) (movSaid imm rd) ⌝ }
+// A move, written: the words from the place on, or refusal 15, 2 or 8 with the run unchanged.
+pub fn encode_mov_sequence64(words: &mut [u32], at: Place, imm: u64, rd: u32) -> Written
+    ensures { λ r. ⌜ (said r, now (words .exit)) ≡ putOf (now (words .entry)) at (movSaid imm rd) ⌝ }
 {
     writers::put(words, at, mov_words(imm, rd))
 }

@@ -1,19 +1,22 @@
 -- What is asked of patchable moves: the words leave the asked value, which at 32 is the low 32 bits with the upper half clear, and nothing
 -- else changed, from any old content; and how many there are. Assumes nothing.
-use mathlib.Core.Path.{_≡_, sym, _∙_}
+use mathlib.Core.Path.{_≡_, sym, ap, _∙_}
 use mathlib.Core.List.{List}
 use mathlib.Core.Option.{some}
-use Prim.Native.Nat.{ℕ, _+_, _/_, _%_, _^_, _<_}
+use Prim.Native.Nat.{ℕ, _/_, _%_, _^_, _<_}
 use native.Mathlib.Nat.{mod-eq-of-lt}
 use native.Mathlib.Omega.{arith}
+use lib.ListN.{length}
 use lib.Seq.{slice}
 use Rattle.arm.specs.MoveWide.{Regs, write, run}
 use Rattle.words.specs.Said.{ok}
 use Rattle.words.specs.Listed.{listOf, packed}
+use Rattle.words.specs.Place.{posOf, on}
+use Rattle.words.specs.declared.Place.{Place}
 use Rattle.words.specs.declared.Words.{Words}
 use Rattle.words.proofs.Answers.{not-both}
-use Rattle.writers.proofs.Writes.{put-done}
-use Rattle.moves.proofs.Calls.{Put, not-refused, put-said, Leaves, made-said, counted}
+use Rattle.writers.proofs.Writes.{put-done, written}
+use Rattle.moves.proofs.Calls.{Put, Leaves, made-said, counted}
 use Rattle.patchable_moves.specs.Patchable.{patch64, patch32, patchSaid}
 use Rattle.patchable_moves.proofs.Run.{patch64-run, patch32-run}
 use Rattle.patchable_moves.proofs.Lengths.{patch-by, patch64-length, patch32-length, patch-short}
@@ -31,8 +34,8 @@ module _ (v size rd : ℕ) (v-is : v < 2 ^ 64) (R : Regs) where
       (λ s l e. let same : patch32 v rd ≡ ws = cc in rw (← same, s) (patch32-run rd l v R))
 
   -- in the run after a call that was not turned down
-  pub patched : (ws : List ℕ) (at p : ℕ) (ws′ : List ℕ) → Put ws at p ws′ (patchSaid v size rd) → Leaves at p ws′ R rd (v % 2 ^ size)
-  patched ws at p ws′ e = patch-said (slice at p ws′) (put-said ws at p ws′ (patchSaid v size rd) e)
+  pub patched : (ws : List ℕ) (at p : Place) (ws′ : List ℕ) → Put ws at p ws′ (patchSaid v size rd) → Leaves at p ws′ R rd (v % 2 ^ size)
+  patched ws at p ws′ e = patch-said (slice (posOf at) (posOf p) ws′) (written ws at (patchSaid v size rd) p ws′ e)
 
   -- by value
   pub patch-made : (f : Words) → ok f ≡ packed (patchSaid v size rd) → run (listOf f) R ≡ some (write R rd (v % 2 ^ size))
@@ -50,11 +53,14 @@ module _ (v size rd : ℕ) where
       (λ s l e. counted f (patch64 v rd) e ∙ omega (arith, patch64-length v rd))
       (λ s l e. counted f (patch32 v rd) e ∙ omega (arith, patch32-length v rd))
 
-  -- through the writer: the position moves on by as many
-  pub patched-past : (ws : List ℕ) (at p : ℕ) (ws′ : List ℕ) → Put ws at p ws′ (patchSaid v size rd) → p ≡ at + size / 16
-  patched-past ws at p ws′ =
-      patch-by v size rd (λ x. Put ws at p ws′ x → p ≡ at + size / 16)
-      (λ e. absurd (not-refused ws at 1 p ws′ e))
-      (λ e. absurd (not-refused ws at 2 p ws′ e))
-      (λ s l e. omega (arith, put-done ws at ws′ (patch64 v rd) p e .past, patch64-length v rd))
-      (λ s l e. omega (arith, put-done ws at ws′ (patch32 v rd) p e .past, patch32-length v rd))
+  -- through the writer: the position moves on by as many, and the base stays
+  pub patched-past : (ws : List ℕ) (at p : Place) (ws′ : List ℕ) → Put ws at p ws′ (patchSaid v size rd) → p ≡ on at (size / 16)
+  patched-past ws at p ws′ e = let d = put-done ws at (patchSaid v size rd) ws′ p e in d .past ∙ ap (on at) (go (d .vs) (d .asked))
+    where
+      go : (vs : List ℕ) → patchSaid v size rd ≡ ok vs → length vs ≡ size / 16
+      go vs =
+          patch-by v size rd (λ x. x ≡ ok vs → length vs ≡ size / 16)
+          (λ q. absurd (not-both (sym q)))
+          (λ q. absurd (not-both (sym q)))
+          (λ s l q. let same : vs ≡ patch64 v rd = cc in ap length same ∙ omega (arith, patch64-length v rd))
+          (λ s l q. let same : vs ≡ patch32 v rd = cc in ap length same ∙ omega (arith, patch32-length v rd))

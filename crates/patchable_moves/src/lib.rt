@@ -1,7 +1,7 @@
 // Module 6: patchable moves. Arm's meaning of the words is in the crate arm, the words that are asked for in specs/Patchable.antt.
 use words::Opc;
+use words::Place;
 use words::Refusal;
-use words::WordPos;
 use words::Worded;
 use words::Words;
 use words::Written;
@@ -66,15 +66,15 @@ pub fn patchable_mov_words(value: u64, size: u32, rd: u32) -> Worded
     Worded::Made(patchable(value, size, rd))
 }
 
-// A patchable move, written: the words from the position on, or refusal 1, 2 or 8 with the run unchanged.
+// A patchable move, written: the words from the place on, or refusal 15, 1, 2 or 8 with the run unchanged.
 pub fn encode_patchable_mov_imm(
     words: &mut [u32],
-    at: WordPos,
+    at: Place,
     value: u64,
     size: u32,
     rd: u32,
 ) -> Written
-    ensures { λ r. ⌜ (said r, now (words .exit)) ≡ putOf (now (words .entry)) (at .0) (patchSaid value size rd) ⌝ }
+    ensures { λ r. ⌜ (said r, now (words .exit)) ≡ putOf (now (words .entry)) at (patchSaid value size rd) ⌝ }
 {
     writers::put(words, at, patchable_mov_words(value, size, rd))
 }

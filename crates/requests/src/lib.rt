@@ -1,5 +1,5 @@
-// Requests from standard input, each answered by the entry that it names: what stored answers are replayed through. A request is 64 bytes,
-// eight numbers of 8 bytes, low byte first: the entry's number and seven arguments.
+// Requests from standard input, each answered by the entry that it names: what stored answers are replayed through. A request is 72 bytes,
+// nine numbers of 8 bytes, low byte first: the entry's number and eight arguments.
 mod answers;
 mod runs;
 
@@ -15,6 +15,7 @@ pub(crate) struct Request {
     pub(crate) e: u64,
     pub(crate) f: u64,
     pub(crate) g: u64,
+    pub(crate) h: u64,
 }
 
 pub(crate) fn wide(x: u8) -> u32
@@ -24,8 +25,8 @@ pub(crate) fn wide(x: u8) -> u32
 }
 
 // Four bytes as a number.
-fn half(bytes: &[u8; 64], i: usize) -> u64
-    requires { ⌜ i ≤ 60 ⌝ }
+fn half(bytes: &[u8; 72], i: usize) -> u64
+    requires { ⌜ i ≤ 68 ⌝ }
     ensures { λ r. ⌜ r < 4294967296 ⌝ }
 {
     let low = wide(bytes[i]) + wide(bytes[i + 1]) * 256;
@@ -33,13 +34,13 @@ fn half(bytes: &[u8; 64], i: usize) -> u64
     (low + high * 65536) as u64
 }
 
-fn number(bytes: &[u8; 64], k: usize) -> u64
-    requires { ⌜ k < 8 ⌝ }
+fn number(bytes: &[u8; 72], k: usize) -> u64
+    requires { ⌜ k < 9 ⌝ }
 {
     half(bytes, k * 8) + half(bytes, k * 8 + 4) * 4294967296
 }
 
-fn read(bytes: &[u8; 64]) -> Request {
+fn read(bytes: &[u8; 72]) -> Request {
     Request {
         entry: number(bytes, 0),
         a: number(bytes, 1),
@@ -49,6 +50,7 @@ fn read(bytes: &[u8; 64]) -> Request {
         e: number(bytes, 5),
         f: number(bytes, 6),
         g: number(bytes, 7),
+        h: number(bytes, 8),
     }
 }
 
@@ -58,14 +60,14 @@ pub(crate) fn low(x: u64) -> u32 {
 }
 
 // The lines of one request.
-fn respond(bytes: &[u8; 64], out: &mut [u8]) {
+fn respond(bytes: &[u8; 72], out: &mut [u8]) {
     let n = runs::lines_of(read(bytes), out);
     if n <= out.len() {
         io::write_all(1, &out[..n]);
     }
 }
 
-fn respond_in(bytes: &[u8; 64], out: &mut [u8; 512]) {
+fn respond_in(bytes: &[u8; 72], out: &mut [u8; 512]) {
     respond(bytes, out);
 }
 
@@ -73,11 +75,11 @@ fn respond_in(bytes: &[u8; 64], out: &mut [u8; 512]) {
 pub fn answer_all()
     ensures { λ _. ⌜ Unit ⌝ }
 {
-    let mut bytes = [0u8; 64];
+    let mut bytes = [0u8; 72];
     let mut out = [0u8; 512];
     let mut turns = u64::MAX;
     while turns > 0 {
-        if io::read_full(0, &mut bytes) < 64 {
+        if io::read_full(0, &mut bytes) < 72 {
             return;
         }
         respond_in(&bytes, &mut out);

@@ -6,8 +6,10 @@ use crate::low;
 use crate::wide;
 use displacements::TargetWritten;
 use lines::Answer;
+use words::Address;
 use words::ByteDistance;
 use words::Opc;
+use words::Place;
 use words::Refusal;
 use words::WordPos;
 use words::Worded;
@@ -85,7 +87,7 @@ fn words_at(run: &[u32], i: usize) -> Answer
 // The new position, or the refusal.
 fn position(w: Written) -> Answer {
     match w {
-        Written::Done(p) => one(low(p.0 as u64)),
+        Written::Done(p) => one(low(p.position.0 as u64)),
         Written::No(r) => Answer::No(r),
     }
 }
@@ -93,8 +95,10 @@ fn position(w: Written) -> Answer {
 // The same of a target, and behind the position of an ADRP the target's low bits.
 fn reached(w: TargetWritten) -> Answer {
     match w {
-        TargetWritten::Wrote(p) => one(low(p.0 as u64)),
-        TargetWritten::WrotePage(p, l) => Answer::Numbers(words::two(low(p.0 as u64), l.0)),
+        TargetWritten::Wrote(p) => one(low(p.position.0 as u64)),
+        TargetWritten::WrotePage(p, l) => {
+            Answer::Numbers(words::two(low(p.position.0 as u64), l.0))
+        }
         TargetWritten::NotWritten(r) => Answer::No(r),
     }
 }
@@ -132,38 +136,45 @@ fn room(r: Request) -> usize
         18 => (r.a % 9) as usize,
         49 => (r.f % 9) as usize,
         80 => (r.c % 9) as usize,
-        96 | 112 => (r.d % 9) as usize,
-        113 => (r.e % 9) as usize,
+        96 | 112 | 113 => (r.d % 9) as usize,
         _ => 9,
     }
 }
 
+// A place by its numbers.
+fn place(base: u64, position: u64) -> Place {
+    Place {
+        base: Address(base),
+        position: WordPos(position as usize),
+    }
+}
+
 fn put(r: Request, run: &mut [u32]) -> Written {
-    writers::put(run, WordPos(r.b as usize), words_of(r))
+    writers::put(run, place(r.h, r.b), words_of(r))
 }
 
 fn logical_word(r: Request, run: &mut [u32]) -> Written {
-    let at = WordPos(r.g as usize);
+    let at = place(r.h, r.g);
     logical_words::emit_logical_imm(run, at, low(r.a), r.b, low(r.c), low(r.d), low(r.e))
 }
 
 fn move_to(r: Request, run: &mut [u32]) -> Written {
-    moves::encode_mov_sequence64(run, WordPos(r.d as usize), r.a, low(r.b))
+    moves::encode_mov_sequence64(run, place(r.e, r.d), r.a, low(r.b))
 }
 
 fn patchable(r: Request, run: &mut [u32]) -> Written {
-    patchable_moves::encode_patchable_mov_imm(run, WordPos(r.e as usize), r.a, low(r.b), low(r.c))
+    patchable_moves::encode_patchable_mov_imm(run, place(r.f, r.e), r.a, low(r.b), low(r.c))
 }
 
 fn by_distance(r: Request, run: &mut [u32]) -> Written {
-    let at = WordPos(r.e as usize);
+    let at = place(r.f, r.e);
     let distance = ByteDistance(words::signed_of(r.c));
     displacements::emit_disp_imm(run, at, low(r.a), Opc(low(r.b)), distance)
 }
 
 fn by_target(r: Request, run: &mut [u32]) -> TargetWritten {
-    let at = WordPos(r.f as usize);
-    displacements::emit_disp_target(run, at, low(r.a), Opc(low(r.b)), r.c, r.d)
+    let at = place(r.f, r.e);
+    displacements::emit_disp_target(run, at, low(r.a), Opc(low(r.b)), Address(r.c))
 }
 
 fn write(r: Request, run: &mut [u32]) -> Answer {
@@ -234,7 +245,7 @@ fn packed_lines(a: Answer, run: &[u8], out: &mut [u8]) -> usize
 fn in_bytes(r: Request, run: &mut [u8], out: &mut [u8]) -> usize
     requires { ⌜ length (now run) ≤ 32 ⌝ }
 {
-    let w = writers::put_bytes(run, WordPos(r.b as usize), words_of(r));
+    let w = writers::put_bytes(run, place(r.h, r.b), words_of(r));
     packed_lines(position(w), run, out)
 }
 

@@ -1,7 +1,7 @@
 -- A refusal is known by its number, an answer by what it says, and words by their list. Assumes nothing.
 use mathlib.Core.Path.{_≡_, refl, sym, ap, _∙_}
 use mathlib.Core.List.{List, [], _∷_}
-use Prim.Native.Nat.{ℕ, _≤_}
+use Prim.Native.Nat.{ℕ, _≤_, _<_}
 use native.Mathlib.Omega.{arith}
 use lib.Dec.{lit≤}
 use lib.ListN.{length, getD}
@@ -9,7 +9,7 @@ use Rattle.words.specs.Said.{Said, ok, no}
 use Rattle.words.specs.Answer.{numberOf, IsNumber, said, made}
 use Rattle.words.specs.Listed.{listOf, wordsOf, listed, packed}
 use Rattle.words.specs.declared.Refusal.{Refusal}
-use Rattle.words.specs.declared.Refusal.the-variants.{Width, Register, NoField, Step, Range, Taken, Unknown, NoRoom, Index, ZeroBase, WrongForm}
+use Rattle.words.specs.declared.Refusal.the-variants.{Width, Register, NoField, Step, Range, Taken, Unknown, NoRoom, Index, ZeroBase, WrongForm, Unaligned}
 use Rattle.words.specs.declared.Worded.{Worded}
 use Rattle.words.specs.declared.Worded.the-variants.{Made, Not}
 use Rattle.words.specs.declared.Written.{Written}
@@ -21,8 +21,9 @@ use Rattle.words.specs.declared.Written.the-variants.{Done, No}
 pub all-said : {X Y : Type 0} (say : X → Y) (unsay : Y → X) → ((x : X) → unsay (say x) ≡ x) → (r s : X) → say r ≡ say s → r ≡ s
 all-said say unsay back r s e = sym (back r) ∙ ap unsay e ∙ back s
 
+-- by number; where there is none, any
 abbrev refusals : List Refusal
-refusals = Width ∷ Width ∷ Register ∷ NoField ∷ Step ∷ Range ∷ Taken ∷ Unknown ∷ NoRoom ∷ Index ∷ ZeroBase ∷ WrongForm ∷ []
+refusals = Width ∷ Width ∷ Register ∷ NoField ∷ Step ∷ Range ∷ Taken ∷ Unknown ∷ NoRoom ∷ Index ∷ ZeroBase ∷ WrongForm ∷ Width ∷ Width ∷ Width ∷ Unaligned ∷ []
 
 -- the refusal of a number
 abbrev pub refusalOf : ℕ → Refusal
@@ -40,24 +41,29 @@ refusal-back NoRoom = refl
 refusal-back Index = refl
 refusal-back ZeroBase = refl
 refusal-back WrongForm = refl
+refusal-back Unaligned = refl
 
 -- a number is one refusal's
 pub number-all : (r s : Refusal) → numberOf r ≡ numberOf s → r ≡ s
 number-all = all-said numberOf refusalOf refusal-back
 
--- and is 1 to the last
-pub number-range : (r : Refusal) → IsNumber (numberOf r)
-number-range Width = (lit≤ tt, lit≤ tt)
-number-range Register = (lit≤ tt, lit≤ tt)
-number-range NoField = (lit≤ tt, lit≤ tt)
-number-range Step = (lit≤ tt, lit≤ tt)
-number-range Range = (lit≤ tt, lit≤ tt)
-number-range Taken = (lit≤ tt, lit≤ tt)
-number-range Unknown = (lit≤ tt, lit≤ tt)
-number-range NoRoom = (lit≤ tt, lit≤ tt)
-number-range Index = (lit≤ tt, lit≤ tt)
-number-range ZeroBase = (lit≤ tt, lit≤ tt)
-number-range WrongForm = (lit≤ tt, lit≤ tt)
+-- which is 1 at least, and fits four bits
+pub number-fits : {n : ℕ} → IsNumber n → (1 ≤ n) × (n < 16)
+number-fits (r, e) = let h = go r in (omega arith, omega arith)
+  where
+    go : (r : Refusal) → (1 ≤ numberOf r) × (numberOf r < 16)
+    go Width = (lit≤ tt, lit≤ tt)
+    go Register = (lit≤ tt, lit≤ tt)
+    go NoField = (lit≤ tt, lit≤ tt)
+    go Step = (lit≤ tt, lit≤ tt)
+    go Range = (lit≤ tt, lit≤ tt)
+    go Taken = (lit≤ tt, lit≤ tt)
+    go Unknown = (lit≤ tt, lit≤ tt)
+    go NoRoom = (lit≤ tt, lit≤ tt)
+    go Index = (lit≤ tt, lit≤ tt)
+    go ZeroBase = (lit≤ tt, lit≤ tt)
+    go WrongForm = (lit≤ tt, lit≤ tt)
+    go Unaligned = (lit≤ tt, lit≤ tt)
 
 -- an answer of two cases: a value, and a refusal
 module _ {A X : Type 0} (value : A → X) (refusal : Refusal → X) where
@@ -69,15 +75,12 @@ module _ {A X : Type 0} (value : A → X) (refusal : Refusal → X) where
 pub not-both : {A : Type 0} {a : A} {n : ℕ} → _≡_ {A = Said A} (ok a) (no n) → ⊥
 not-both e = let z : _≡_ {A = ℕ} 0 1 = cc in omega arith
 
-abbrev doneAt : ℕ → Written
-doneAt n = Done (record { 0 = n })
-
-written-back : (r : Written) → answered doneAt No (said r) ≡ r
+written-back : (r : Written) → answered Done No (said r) ≡ r
 written-back (Done p) = refl
 written-back (No r) = ap No (refusal-back r)
 
 pub said-all : (r s : Written) → said r ≡ said s → r ≡ s
-said-all = all-said said (answered doneAt No) written-back
+said-all = all-said said (answered Done No) written-back
 
 made-back : (r : Worded) → answered Made Not (made r) ≡ r
 made-back (Made f) = refl

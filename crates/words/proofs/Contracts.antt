@@ -5,6 +5,7 @@ use mathlib.Core.List.{List}
 use Prim.Native.Nat.{ℕ}
 use Rattle.words.specs.Said.{Said}
 use Rattle.words.specs.Answer.{said}
+use Rattle.words.specs.declared.Place.{Place}
 use Rattle.words.specs.declared.Written.{Written}
 use Rattle.words.proofs.Answers.{said-all}
 
@@ -30,5 +31,5 @@ one-pair {A} {B} {a} {c} {b} {d} p q =
     (ap (λ (k : A × B). k .0) e, ap (λ (k : A × B). k .1) e)
 
 -- a writer's answer, and the run after it
-pub one-write : (r s : Written) {l m : List ℕ} {z : Said ℕ × List ℕ} → (said r, l) ≡ z → (said s, m) ≡ z → (r ≡ s) × (l ≡ m)
+pub one-write : (r s : Written) {l m : List ℕ} {z : Said Place × List ℕ} → (said r, l) ≡ z → (said s, m) ≡ z → (r ≡ s) × (l ≡ m)
 one-write r s p q = let e = one-pair p q in (said-all r s (e .0), e .1)

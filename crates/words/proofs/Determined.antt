@@ -1,6 +1,7 @@
 -- Each public entry's contract allows one answer. Assumes nothing.
 use Rattle.words.proofs.Contracts.{OneAnswer, one-answer}
 use Rattle.words.proofs.number.Reads as number
+use Rattle.words.proofs.address_of.Reads as address-of
 use Rattle.words.proofs.one.Reads as one
 use Rattle.words.proofs.two.Reads as two
 use Rattle.words.proofs.three.Reads as three
@@ -12,6 +13,9 @@ use Rattle.words.proofs.bits_of.Reads as bits-of
 
 pub number-determined : OneAnswer number.Post
 number-determined k a r s x y p q = one-answer p q
+
+pub address-of-determined : OneAnswer address-of.Post
+address-of-determined k a r s x y p q = one-answer p q
 
 pub one-determined : OneAnswer one.Post
 one-determined k a r s x y p q = one-answer p q

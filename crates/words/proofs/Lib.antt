@@ -2,6 +2,7 @@
 pub mod Answers
 pub mod Contracts
 pub mod Determined
+pub mod Examples
 pub mod Fields
 pub mod Low
 pub mod Runs

@@ -1,9 +1,11 @@
 -- The number of each refusal, and the numbers and values of each answer. Assumes nothing.
-use Prim.Native.Nat.{ℕ, _≤_}
+use mathlib.Core.Path.{_≡_}
+use Prim.Native.Nat.{ℕ}
 use Rattle.words.specs.Said.{Said, ok, no}
 use Rattle.words.specs.declared.Refusal.{Refusal}
-use Rattle.words.specs.declared.Refusal.the-variants.{Width, Register, NoField, Step, Range, Taken, Unknown, NoRoom, Index, ZeroBase, WrongForm}
+use Rattle.words.specs.declared.Refusal.the-variants.{Width, Register, NoField, Step, Range, Taken, Unknown, NoRoom, Index, ZeroBase, WrongForm, Unaligned}
 use Rattle.words.specs.declared.Words.{Words}
+use Rattle.words.specs.declared.Place.{Place}
 use Rattle.words.specs.declared.Worded.{Worded}
 use Rattle.words.specs.declared.Worded.the-variants.{Made, Not}
 use Rattle.words.specs.declared.Written.{Written}
@@ -22,18 +24,15 @@ numberOf NoRoom = 8
 numberOf Index = 9
 numberOf ZeroBase = 10
 numberOf WrongForm = 11
+numberOf Unaligned = 15
 
--- the last of them
-abbrev pub lastNumber : ℕ
-lastNumber = 11
-
--- a refusal's number
+-- a number that some refusal has
 abbrev pub IsNumber : ℕ → Type 0
-IsNumber n = (1 ≤ n) × (n ≤ lastNumber)
+IsNumber n = (r : Refusal) × (numberOf r ≡ n)
 
--- a writer says the position after the last word
-abbrev pub said : Written → Said ℕ
-said (Done p) = ok (p .0)
+-- a writer says the place after the last word
+abbrev pub said : Written → Said Place
+said (Done p) = ok p
 said (No r) = no (numberOf r)
 
 -- words by value

@@ -1,5 +1,5 @@
-// Module 1: positions, distances and opcode words, each a type of its own; the refusals; up to four words by value; masks of low bits, the
-// bit test, and signed numbers as 64 bits.
+// Module 1: addresses, positions, distances and opcode words, each a type of its own; places in code; the refusals; up to four words by value;
+// masks of low bits, the bit test, and signed numbers as 64 bits.
 ghost use mathlib.Core.Path.{_≡_};
 ghost use mathlib.Core.List.{[], _∷_};
 ghost use Prim.Native.Nat.{_%_, _^_, min};
@@ -9,12 +9,22 @@ ghost use Rattle.arm.specs.Bits.{Ones};
 ghost use Rattle.words.specs.Answer.{numberOf};
 ghost use Rattle.words.specs.Bit.{bitOf};
 ghost use Rattle.words.specs.Listed.{wordsOf};
+ghost use Rattle.words.specs.Place.{addressOf};
 
 // A place in a run of words, counted in words.
 pub struct WordPos(pub usize);
 
+// An address in bytes.
+pub struct Address(pub u64);
+
 // A signed distance in bytes.
 pub struct ByteDistance(pub i64);
+
+// A place in code: the address of the run's first word, and the position in the run.
+pub struct Place {
+    pub base: Address,
+    pub position: WordPos,
+}
 
 // An opcode word.
 pub struct Opc(pub u32);
@@ -32,6 +42,7 @@ pub enum Refusal {
     Index,
     ZeroBase,
     WrongForm,
+    Unaligned,
 }
 
 // Up to four words: a, b, c, d, as many as the count says.
@@ -49,9 +60,9 @@ pub enum Worded {
     Not(Refusal),
 }
 
-// What a writer answers: the position just past the last word written.
+// What a writer answers: the place just past the last word written.
 pub enum Written {
-    Done(WordPos),
+    Done(Place),
     No(Refusal),
 }
 
@@ -70,7 +81,16 @@ pub fn number(r: Refusal) -> u32
         Refusal::Index => 9,
         Refusal::ZeroBase => 10,
         Refusal::WrongForm => 11,
+        Refusal::Unaligned => 15,
     }
+}
+
+// The address of the word at a place. The sum wraps, and of the position only the low 62 bits count: four times the rest is whole turns.
+pub fn address_of(at: Place) -> Address
+    ensures { λ r. ⌜ r ≡ record { 0 = addressOf at } ⌝ }
+{
+    let bytes = at.position.0 as u64 % 0x4000_0000_0000_0000 * 4;
+    Address(std::num::wrapping_add_u64(at.base.0, bytes))
 }
 
 // Up to three numbers by value, of which `count` are used.

@@ -1,105 +1,164 @@
--- What the writers say and leave: the cases of `putOf` and `putBytesOf`, and what then stands in the run. Assumes nothing.
-use mathlib.Core.Path.{_≡_, refl, sym, ap, _∙_}
+-- What the writers say and leave: each thing in its event and back, and what then stands in the run. Assumes nothing.
+use mathlib.Core.Path.{_≡_, refl, sym, ap, subst, _∙_}
 use mathlib.Core.Bool.{Bool, true, false, cond}
 use mathlib.Core.List.{List, [], _∷_, _++_}
-use mathlib.Core.Logic.{_⊎_, inl, inr, ⊎-elim}
+use mathlib.Core.Logic.{_⊎_, inl, inr, ⊎-elim, _↔_}
 use Prim.Native.Nat.{ℕ, suc, _+_, _*_, _/_, _%_, _≤_, _<_}
 use native.Mathlib.Omega.{arith}
-use borrow.Author.Tests.{le-leb, lt-leb, leb-true, leb-false}
-use lib.Dec.{leb}
+use borrow.Author.Tests.{le-leb, lt-leb, leb-true, leb-false, eq-eqb, ne-eqb, eqb-true, eqb-false}
+use lib.Dec.{eqb, leb}
 use lib.ListN.{length, set, take, drop, getD, length-append}
 use lib.Seq.{sets, sets-eq, slice, take-at, drop-at, length-take-le, getD-set-other}
 use Rattle.words.specs.Said.{Said, ok, no}
+use Rattle.words.specs.Place.{baseOf, posOf, on, Aligned}
+use Rattle.words.specs.declared.Place.{Place}
 use Rattle.words.proofs.Answers.{not-both}
-use Rattle.writers.specs.Put.{putOf, putBytesOf, allBytes, wordsIn}
+use Rattle.writers.specs.Put.{putAt, putBytesAt, based, atBase, putOf, putBytesOf, allBytes, wordsIn}
+use Rattle.writers.specs.Says.{Says, unaligned, refused, full, done, Puts, PutsBytes}
 
--- a refusal is handed on, and the run is as it was
-module _ (ws : List ℕ) (at n : ℕ) where
-  pub put-no : putOf ws at (no n) ≡ (no n, ws)
-  unfolding putOf
-  put-no = refl
+abbrev pub Answer : Type 0
+Answer = Said Place × List ℕ
 
-  pub bytes-no : putBytesOf ws at (no n) ≡ (no n, ws)
-  unfolding putBytesOf
-  bytes-no = refl
+-- ---- at a position: the words fit, or there is no room for them
 
--- the words fit, or there is no room for them
 module _ (ws : List ℕ) (at : ℕ) (vs : List ℕ) where
-  pub put-fits : at + length vs ≤ length ws → putOf ws at (ok vs) ≡ (ok (at + length vs), sets ws at vs)
+  pub at-fits : at + length vs ≤ length ws → putAt ws at (ok vs) ≡ (ok (at + length vs), sets ws at vs)
+  unfolding putAt
+  at-fits h = simp (le-leb (at + length vs) (length ws) h)
+
+  pub at-full : length ws < at + length vs → putAt ws at (ok vs) ≡ (no 8, ws)
+  unfolding putAt
+  at-full h = simp (lt-leb (at + length vs) (length ws) h)
+
+  pub bytes-at-fit : at + length vs ≤ length ws / 4 → putBytesAt ws at (ok vs) ≡ (ok (at + length vs), sets ws (at * 4) (allBytes vs))
+  unfolding putBytesAt
+  bytes-at-fit h = simp (le-leb (at + length vs) (length ws / 4) h)
+
+  pub bytes-at-full : length ws / 4 < at + length vs → putBytesAt ws at (ok vs) ≡ (no 8, ws)
+  unfolding putBytesAt
+  bytes-at-full h = simp (lt-leb (at + length vs) (length ws / 4) h)
+
+-- ---- at a place: each thing is said exactly in its event
+
+module _ (at : Place) (x : Said (List ℕ)) where
+  pub based-yes : Aligned at → based at x ≡ x
+  unfolding based
+  based-yes a = simp (eq-eqb _ _ a)
+
+  pub based-no : (Aligned at → ⊥) → based at x ≡ no 15
+  unfolding based
+  based-no h = simp (ne-eqb _ _ h)
+
+-- for either writer, of which all that is known is what it says of a refusal and of words
+module _ (room from : ℕ) (spell : List ℕ → List ℕ) (l : List ℕ) (at : Place) (put : Said (List ℕ) → Said ℕ × List ℕ)
+    (kept : (n : ℕ) → put (no n) ≡ (no n, l))
+    (roomed : (vs : List ℕ) → put (ok vs) ≡ cond (leb (posOf at + length vs) room) (ok (posOf at + length vs), sets l from (spell vs)) (no 8, l)) where
+  says : (x : Said (List ℕ)) → Says room from spell l at x (atBase (at .base) (put (based at x)))
+  unfolding based
+  says x = go (eqb (baseOf at % 4) 0) refl x
+    where
+      fit : (vs : List ℕ) (b : Bool) → Aligned at → leb (posOf at + length vs) room ≡ b
+          → Says room from spell l at (ok vs) (atBase (at .base) (cond b (ok (posOf at + length vs), sets l from (spell vs)) (no 8, l)))
+      fit vs true a t = done vs a refl (leb-true _ _ t)
+      fit vs false a t = full vs a refl (leb-false _ _ t)
+
+      go : (b : Bool) → eqb (baseOf at % 4) 0 ≡ b → (x : Said (List ℕ)) → Says room from spell l at x (atBase (at .base) (put (cond b x (no 15))))
+      go false e x = rw (kept 15) (unaligned (eqb-false _ _ e))
+      go true e (no n) = rw (kept n) (refused n (eqb-true _ _ e) refl)
+      go true e (ok vs) = rw (roomed vs) (fit vs (leb (posOf at + length vs) room) (eqb-true _ _ e) refl)
+
+  answers : (x : Said (List ℕ)) {z : Answer} → Says room from spell l at x z → atBase (at .base) (put (based at x)) ≡ z
+  answers x (unaligned h) = rw (based-no at x h, kept 15) refl
+  answers x (refused n a e) = rw (based-yes at x a, e, kept n) refl
+  answers x (full vs a e h) = rw (based-yes at x a, e, roomed vs, lt-leb _ _ h) refl
+  answers x (done vs a e h) = rw (based-yes at x a, e, roomed vs, le-leb _ _ h) refl
+
+module _ (l : List ℕ) (at : Place) (x : Said (List ℕ)) where
+  pub put-says : Puts l at x (putOf l at x)
+  unfolding putOf putAt
+  put-says = says (length l) (posOf at) (λ vs. vs) l at (putAt l (posOf at)) (λ n. refl) (λ vs. refl) x
+
+  pub put-answers : {z : Answer} → Puts l at x z → putOf l at x ≡ z
+  unfolding putOf putAt
+  put-answers = answers (length l) (posOf at) (λ vs. vs) l at (putAt l (posOf at)) (λ n. refl) (λ vs. refl) x
+
+  pub bytes-says : PutsBytes l at x (putBytesOf l at x)
+  unfolding putBytesOf putBytesAt
+  bytes-says = says (length l / 4) (posOf at * 4) allBytes l at (putBytesAt l (posOf at)) (λ n. refl) (λ vs. refl) x
+
+  pub bytes-answers : {z : Answer} → PutsBytes l at x z → putBytesOf l at x ≡ z
+  unfolding putBytesOf putBytesAt
+  bytes-answers = answers (length l / 4) (posOf at * 4) allBytes l at (putBytesAt l (posOf at)) (λ n. refl) (λ vs. refl) x
+
+  pub put-exactly : (z : Answer) → (putOf l at x ≡ z) ↔ Puts l at x z
+  put-exactly z = (λ e. subst (Puts l at x) e put-says, put-answers)
+
+  pub bytes-exactly : (z : Answer) → (putBytesOf l at x ≡ z) ↔ PutsBytes l at x z
+  bytes-exactly z = (λ e. subst (PutsBytes l at x) e bytes-says, bytes-answers)
+
+  -- with a multiple of 4 for base, what is said is document 01's, and the base with it
+  pub put-before : Aligned at → putOf l at x ≡ atBase (at .base) (putAt l (posOf at) x)
   unfolding putOf
-  put-fits h = simp (le-leb (at + length vs) (length ws) h)
+  put-before a = ap (λ (y : Said (List ℕ)). atBase (at .base) (putAt l (posOf at) y)) (based-yes at x a)
 
-  pub put-full : length ws < at + length vs → putOf ws at (ok vs) ≡ (no 8, ws)
-  unfolding putOf
-  put-full h = simp (lt-leb (at + length vs) (length ws) h)
-
-  pub bytes-fit : at + length vs ≤ length ws / 4 → putBytesOf ws at (ok vs) ≡ (ok (at + length vs), sets ws (at * 4) (allBytes vs))
+  pub bytes-before : Aligned at → putBytesOf l at x ≡ atBase (at .base) (putBytesAt l (posOf at) x)
   unfolding putBytesOf
-  bytes-fit h = simp (le-leb (at + length vs) (length ws / 4) h)
+  bytes-before a = ap (λ (y : Said (List ℕ)). atBase (at .base) (putBytesAt l (posOf at) y)) (based-yes at x a)
 
-  pub bytes-full : length ws / 4 < at + length vs → putBytesOf ws at (ok vs) ≡ (no 8, ws)
-  unfolding putBytesOf
-  bytes-full h = simp (lt-leb (at + length vs) (length ws / 4) h)
+  -- whatever is asked for, a base that is no multiple of 4 is all that is said
+  pub put-15 : (Aligned at → ⊥) → putOf l at x ≡ (no 15, l)
+  put-15 h = put-answers (unaligned h)
+
+  pub bytes-15 : (Aligned at → ⊥) → putBytesOf l at x ≡ (no 15, l)
+  bytes-15 h = bytes-answers (unaligned h)
+
+-- what is refused is not written
+module _ (l : List ℕ) (at : Place) (n : ℕ) where
+  not-done : {room from : ℕ} {spell : List ℕ → List ℕ} {z : Answer} → Says room from spell l at (no n) z → (m : ℕ) × (z .0 ≡ no m)
+  not-done (unaligned h) = (15, refl)
+  not-done (refused m a e) = (m, refl)
+  not-done (full vs a e h) = (8, refl)
+  not-done (done vs a e h) = absurd (not-both (sym e))
+
+  pub put-no : (m : ℕ) × (putOf l at (no n) .0 ≡ no m)
+  put-no = not-done (put-says l at (no n))
+
+  pub bytes-no : (m : ℕ) × (putBytesOf l at (no n) .0 ≡ no m)
+  bytes-no = not-done (bytes-says l at (no n))
 
 -- ---- what a writer said, and what then stands in the run
 
--- words were put: `spelled` stands from `place` on, and the rest is as it was
-pub record Put (room place : ℕ) (l : List ℕ) (at : ℕ) (vs spelled : List ℕ) (p : ℕ) (l′ : List ℕ) : Type 0 where
-  pub past : p ≡ at + length vs
-  pub holds : l′ ≡ sets l place spelled
-  pub fits : at + length vs ≤ room
+module _ (room from : ℕ) (spell : List ℕ → List ℕ) (l : List ℕ) (at : Place) (x : Said (List ℕ)) where
+  -- words were put: they are what was asked for, they stand from `from` on, the rest is as it was, and the base too
+  pub record Put (p : Place) (l′ : List ℕ) : Type 0 where
+    pub vs : List ℕ
+    pub asked : x ≡ ok vs
+    pub base : Aligned at
+    pub past : p ≡ on at (length vs)
+    pub holds : l′ ≡ sets l from (spell vs)
+    pub fits : posOf at + length vs ≤ room
 
-abbrev Answer : Type 0
-Answer = Said ℕ × List ℕ
+  gave : (p : Place) (l′ : List ℕ) → Says room from spell l at x (ok p, l′) → Put p l′
+  gave p l′ (done vs a e h) = record { vs = vs; asked = e; base = a; past = refl; holds = refl; fits = h }
 
-module _ (room place : ℕ) (l : List ℕ) (at : ℕ) (vs spelled l′ : List ℕ) where
-  abbrev both : Bool → Answer
-  both b = cond b (ok (at + length vs), sets l place spelled) (no 8, l)
+  left : (n : ℕ) (l′ : List ℕ) → Says room from spell l at x (no n, l′) → l′ ≡ l
+  left n l′ (unaligned h) = refl
+  left n l′ (refused m a e) = refl
+  left n l′ (full vs a e h) = refl
 
-  taken : (p : ℕ) (b : Bool) → leb (at + length vs) room ≡ b → _≡_ {A = Answer} (ok p, l′) (both b) → Put room place l at vs spelled p l′
-  taken p true t e =
-      let answer : ok p ≡ ok (at + length vs) = ap (λ (r : Answer). r .0) e in
-      record { past = cc; holds = ap (λ (r : Answer). r .1) e; fits = leb-true _ _ t }
-  taken p false t e = absurd (not-both (ap (λ (r : Answer). r .0) e))
+module _ (l : List ℕ) (at : Place) (x : Said (List ℕ)) (l′ : List ℕ) where
+  pub put-done : (p : Place) → _≡_ {A = Answer} (ok p, l′) (putOf l at x) → Put (length l) (posOf at) (λ vs. vs) l at x p l′
+  put-done p e = gave (length l) (posOf at) (λ vs. vs) l at x p l′ (put-exactly l at x (ok p, l′) .0 (sym e))
 
-  left : (n : ℕ) (b : Bool) → _≡_ {A = Answer} (no n, l′) (both b) → l′ ≡ l
-  left n true e = absurd (not-both (sym (ap (λ (r : Answer). r .0) e)))
-  left n false e = ap (λ (r : Answer). r .1) e
-
-  full : (n : ℕ) (b : Bool) → leb (at + length vs) room ≡ b → _≡_ {A = Answer} (no n, l′) (both b) → (n ≡ 8) × (room < at + length vs)
-  full n true t e = absurd (not-both (sym (ap (λ (r : Answer). r .0) e)))
-  full n false t e =
-      let answer : no n ≡ no 8 = ap (λ (r : Answer). r .0) e in
-      (cc, leb-false _ _ t)
-
-module _ (l : List ℕ) (at : ℕ) (l′ : List ℕ) where
-  pub put-done : (vs : List ℕ) (p : ℕ) → _≡_ {A = Answer} (ok p, l′) (putOf l at (ok vs)) → Put (length l) at l at vs vs p l′
-  unfolding putOf
-  put-done vs p e = taken (length l) at l at vs vs l′ p (leb (at + length vs) (length l)) refl e
-
-  pub bytes-done : (vs : List ℕ) (p : ℕ) → _≡_ {A = Answer} (ok p, l′) (putBytesOf l at (ok vs)) → Put (length l / 4) (at * 4) l at vs (allBytes vs) p l′
-  unfolding putBytesOf
-  bytes-done vs p e = taken (length l / 4) (at * 4) l at vs (allBytes vs) l′ p (leb (at + length vs) (length l / 4)) refl e
+  pub bytes-done : (p : Place) → _≡_ {A = Answer} (ok p, l′) (putBytesOf l at x) → Put (length l / 4) (posOf at * 4) allBytes l at x p l′
+  bytes-done p e = gave (length l / 4) (posOf at * 4) allBytes l at x p l′ (bytes-exactly l at x (ok p, l′) .0 (sym e))
 
   -- "A refusal .. changes no word and no position"
-  pub put-refused : (x : Said (List ℕ)) (n : ℕ) → _≡_ {A = Answer} (no n, l′) (putOf l at x) → l′ ≡ l
-  unfolding putOf
-  put-refused (ok vs) n e = left (length l) at l at vs vs l′ n (leb (at + length vs) (length l)) e
-  put-refused (no m) n e = ap (λ (r : Answer). r .1) e
+  pub put-refused : (n : ℕ) → _≡_ {A = Answer} (no n, l′) (putOf l at x) → l′ ≡ l
+  put-refused n e = left (length l) (posOf at) (λ vs. vs) l at x n l′ (put-exactly l at x (no n, l′) .0 (sym e))
 
-  pub bytes-refused : (x : Said (List ℕ)) (n : ℕ) → _≡_ {A = Answer} (no n, l′) (putBytesOf l at x) → l′ ≡ l
-  unfolding putBytesOf
-  bytes-refused (ok vs) n e = left (length l / 4) (at * 4) l at vs (allBytes vs) l′ n (leb (at + length vs) (length l / 4)) e
-  bytes-refused (no m) n e = ap (λ (r : Answer). r .1) e
-
-  -- words are refused with 8 alone, and only where "the words do not fit from the position on, or the position lies past the end"
-  pub put-eight : (vs : List ℕ) (n : ℕ) → _≡_ {A = Answer} (no n, l′) (putOf l at (ok vs)) → (n ≡ 8) × (length l < at + length vs)
-  unfolding putOf
-  put-eight vs n e = full (length l) at l at vs vs l′ n (leb (at + length vs) (length l)) refl e
-
-  pub bytes-eight : (vs : List ℕ) (n : ℕ) → _≡_ {A = Answer} (no n, l′) (putBytesOf l at (ok vs)) → (n ≡ 8) × (length l / 4 < at + length vs)
-  unfolding putBytesOf
-  bytes-eight vs n e = full (length l / 4) (at * 4) l at vs (allBytes vs) l′ n (leb (at + length vs) (length l / 4)) refl e
+  pub bytes-refused : (n : ℕ) → _≡_ {A = Answer} (no n, l′) (putBytesOf l at x) → l′ ≡ l
+  bytes-refused n e = left (length l / 4) (posOf at * 4) allBytes l at x n l′ (bytes-exactly l at x (no n, l′) .0 (sym e))
 
 -- ---- stores, read back
 
@@ -128,23 +187,28 @@ words-back (v ∷ vs) =
     rw (e, words-back vs)
 
 -- from the old position to the new one stand the words that were asked for, and every other word is as before
-module _ (l : List ℕ) (at : ℕ) (vs : List ℕ) (p : ℕ) (l′ : List ℕ) where
-  pub written : _≡_ {A = Answer} (ok p, l′) (putOf l at (ok vs)) → slice at p l′ ≡ vs
-  written e = let d = put-done l at l′ vs p e in rw (d .past, d .holds) (stored l vs at (d .fits))
+module _ (l : List ℕ) (at : Place) (x : Said (List ℕ)) (p : Place) (l′ : List ℕ) where
+  module _ (e : _≡_ {A = Answer} (ok p, l′) (putOf l at x)) where
+    pub written : x ≡ ok (slice (posOf at) (posOf p) l′)
+    written =
+        let d = put-done l at x l′ p e in
+        d .asked ∙ ap ok (sym (ap (λ (q : Place). slice (posOf at) (posOf q) l′) (d .past) ∙ ap (slice (posOf at) (posOf at + length (d .vs))) (d .holds) ∙ stored l (d .vs) (posOf at) (d .fits)))
 
-  pub others : _≡_ {A = Answer} (ok p, l′) (putOf l at (ok vs)) → (k : ℕ) → (k < at) ⊎ (p ≤ k) → getD l′ k 0 ≡ getD l k 0
-  others e k h = let d = put-done l at l′ vs p e in rw (d .holds) (outside vs l at k (rw (d .past) at h))
+    pub others : (k : ℕ) → (k < posOf at) ⊎ (posOf p ≤ k) → getD l′ k 0 ≡ getD l k 0
+    others k h = let d = put-done l at x l′ p e in rw (d .holds) (outside (d .vs) l (posOf at) k (rw (d .past) at h))
 
-  pub bytes-written : _≡_ {A = Answer} (ok p, l′) (putBytesOf l at (ok vs)) → slice (at * 4) (p * 4) l′ ≡ allBytes vs
-  bytes-written e =
-      let d = bytes-done l at l′ vs p e in
-      let all = length-bytes vs in
-      let end : p * 4 ≡ at * 4 + length (allBytes vs) = omega (arith, d .past) in
-      rw (end, d .holds) (stored l (allBytes vs) (at * 4) (omega (arith, d .fits)))
+  module _ (e : _≡_ {A = Answer} (ok p, l′) (putBytesOf l at x)) where
+    abbrev d : Put (length l / 4) (posOf at * 4) allBytes l at x p l′
+    d = bytes-done l at x l′ p e
 
-  pub bytes-others : _≡_ {A = Answer} (ok p, l′) (putBytesOf l at (ok vs)) → (k : ℕ) → (k < at * 4) ⊎ (p * 4 ≤ k) → getD l′ k 0 ≡ getD l k 0
-  bytes-others e k h =
-      let d = bytes-done l at l′ vs p e in
-      let all = length-bytes vs in
-      let end : p * 4 ≡ at * 4 + length (allBytes vs) = omega (arith, d .past) in
-      rw (d .holds) (outside (allBytes vs) l (at * 4) k (rw end at h))
+    end : posOf p * 4 ≡ posOf at * 4 + length (allBytes (d .vs))
+    end = ap (λ (q : Place). posOf q * 4) (d .past) ∙ omega (arith, length-bytes (d .vs))
+
+    pub bytes-written : slice (posOf at * 4) (posOf p * 4) l′ ≡ allBytes (d .vs)
+    bytes-written =
+        ap (λ (k : ℕ). slice (posOf at * 4) k l′) end
+        ∙ ap (slice (posOf at * 4) (posOf at * 4 + length (allBytes (d .vs)))) (d .holds)
+        ∙ stored l (allBytes (d .vs)) (posOf at * 4) (omega (arith, d .fits, length-bytes (d .vs)))
+
+    pub bytes-others : (k : ℕ) → (k < posOf at * 4) ⊎ (posOf p * 4 ≤ k) → getD l′ k 0 ≡ getD l k 0
+    bytes-others k h = rw (d .holds) (outside (allBytes (d .vs)) l (posOf at * 4) k (rw end at h))

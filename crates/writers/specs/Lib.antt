@@ -1,2 +1,3 @@
--- What writing words leaves.
+-- What writing words says and leaves, and when.
 pub mod Put
+pub mod Says

@@ -1,19 +1,44 @@
 // The two writers of up to four words, one for a run of words and one for a run of bytes. Every entry that writes hands them its words or its
-// refusal; they alone test the room.
+// refusal; they alone test the base address, before anything else, and the room.
+use words::Place;
 use words::Refusal;
 use words::WordPos;
 use words::Worded;
 use words::Words;
 use words::Written;
 ghost use mathlib.Core.Path.{_≡_};
-ghost use Prim.Native.Nat.{_+_, _-_, _*_, _≤_, _<_, min};
+ghost use Prim.Native.Nat.{_+_, _-_, _*_, _^_, _≤_, _<_, min};
 ghost use lib.Dec.{leb};
 ghost use lib.ListN.{length, set};
 ghost use lib.Seq.{sets};
 ghost use Rattle.words.specs.Said.{Said};
 ghost use Rattle.words.specs.Answer.{said, made};
 ghost use Rattle.words.specs.Listed.{listOf, listed};
-ghost use Rattle.writers.specs.Put.{bytesOf, allBytes, putOf, putBytesOf};
+ghost use Rattle.words.specs.Place.{on};
+ghost use Rattle.writers.specs.Put.{bytesOf, allBytes, putAt, putBytesAt, atBase, based, putOf, putBytesOf};
+
+// What is asked for at a place, or 15: both writers test the base here.
+fn based(at: Place, m: Worded) -> Worded
+    ensures { λ r. ⌜ listed (made r) ≡ based at (listed (made m)) ⌝ }
+{
+    if at.base.0 % 4 == 0 {
+        m
+    } else {
+        Worded::Not(Refusal::Unaligned)
+    }
+}
+
+// The place so many words on, at the same base.
+fn past(at: Place, n: usize) -> Place
+    requires { ⌜ at .position .0 + n < 2 ^ 64 ⌝ }
+    ensures { λ r. ⌜ r ≡ on at n ⌝ }
+{
+    let base = at.base;
+    Place {
+        base,
+        position: WordPos(at.position.0 + n),
+    }
+}
 
 fn least(a: usize, b: usize) -> usize
     ensures { λ r. ⌜ r ≡ min a b ⌝ }
@@ -21,7 +46,7 @@ fn least(a: usize, b: usize) -> usize
     if a < b { a } else { b }
 }
 
-// Whether a run of so many words has n of them from place i on.
+// Whether a run of so many words has n of them from word i on.
 fn fits(room: usize, i: usize, n: usize) -> bool
     ensures { λ r. ⌜ r ≡ leb (i + n) room ⌝ }
 {
@@ -62,22 +87,22 @@ fn store_all(words: &mut [u32], i: usize, n: usize, f: Words)
     store(words, i, last, 0, f.a);
 }
 
-fn put_words(words: &mut [u32], at: WordPos, f: Words) -> Written
-    ensures { λ r. ⌜ (said r, now (words .exit)) ≡ putOf (now (words .entry)) (at .0) (Said.ok (listOf f)) ⌝ }
+fn put_words(words: &mut [u32], at: Place, f: Words) -> Written
+    ensures { λ r. ⌜ (said r, now (words .exit)) ≡ atBase (at .base) (putAt (now (words .entry)) (at .position .0) (Said.ok (listOf f))) ⌝ }
 {
     let n = least(f.count, 4);
-    if fits(words.len(), at.0, n) {
-        store_all(words, at.0, n, f);
-        return Written::Done(WordPos(at.0 + n));
+    if fits(words.len(), at.position.0, n) {
+        store_all(words, at.position.0, n, f);
+        return Written::Done(past(at, n));
     }
     Written::No(Refusal::NoRoom)
 }
 
-// The words from the position on, or a refusal with the run unchanged. A count above four is four.
-pub fn put(words: &mut [u32], at: WordPos, m: Worded) -> Written
-    ensures { λ r. ⌜ (said r, now (words .exit)) ≡ putOf (now (words .entry)) (at .0) (listed (made m)) ⌝ }
+// The words from the place on, or a refusal with the run unchanged: 15, then what is handed in, then 8. A count above four is four.
+pub fn put(words: &mut [u32], at: Place, m: Worded) -> Written
+    ensures { λ r. ⌜ (said r, now (words .exit)) ≡ putOf (now (words .entry)) at (listed (made m)) ⌝ }
 {
-    match m {
+    match based(at, m) {
         Worded::Made(f) => put_words(words, at, f),
         Worded::Not(r) => Written::No(r),
     }
@@ -116,22 +141,22 @@ fn store_all_bytes(bytes: &mut [u8], i: usize, n: usize, f: Words)
     store_bytes(bytes, i, last, 0, f.a);
 }
 
-fn put_words_bytes(bytes: &mut [u8], at: WordPos, f: Words) -> Written
-    ensures { λ r. ⌜ (said r, now (bytes .exit)) ≡ putBytesOf (now (bytes .entry)) (at .0) (Said.ok (listOf f)) ⌝ }
+fn put_words_bytes(bytes: &mut [u8], at: Place, f: Words) -> Written
+    ensures { λ r. ⌜ (said r, now (bytes .exit)) ≡ atBase (at .base) (putBytesAt (now (bytes .entry)) (at .position .0) (Said.ok (listOf f))) ⌝ }
 {
     let n = least(f.count, 4);
-    if fits(bytes.len() / 4, at.0, n) {
-        store_all_bytes(bytes, at.0, n, f);
-        return Written::Done(WordPos(at.0 + n));
+    if fits(bytes.len() / 4, at.position.0, n) {
+        store_all_bytes(bytes, at.position.0, n, f);
+        return Written::Done(past(at, n));
     }
     Written::No(Refusal::NoRoom)
 }
 
 // The same in a run of bytes: a word is four bytes, low byte first, the position counts words, and a tail under four bytes is no room.
-pub fn put_bytes(bytes: &mut [u8], at: WordPos, m: Worded) -> Written
-    ensures { λ r. ⌜ (said r, now (bytes .exit)) ≡ putBytesOf (now (bytes .entry)) (at .0) (listed (made m)) ⌝ }
+pub fn put_bytes(bytes: &mut [u8], at: Place, m: Worded) -> Written
+    ensures { λ r. ⌜ (said r, now (bytes .exit)) ≡ putBytesOf (now (bytes .entry)) at (listed (made m)) ⌝ }
 {
-    match m {
+    match based(at, m) {
         Worded::Made(f) => put_words_bytes(bytes, at, f),
         Worded::Not(r) => Written::No(r),
     }

@@ -3,7 +3,7 @@
 use oracle::replay::answer::{Answer, Said};
 use oracle::replay::request::{entry::*, Request};
 use oracle::replay::{settle, Settled};
-use vaimalofo::{ByteDistance, Logical, Reached, Refusal, WordPos};
+use vaimalofo::{Address, ByteDistance, Logical, Place, Reached, Refusal, WordPos};
 
 use crate::tally::Tally;
 
@@ -47,20 +47,28 @@ impl Watched {
     }
 }
 
-/// What a function that writes answers, as the oracle spells it.
-fn wrote(answer: Result<WordPos, Refusal>, watched: &mut Watched) -> Result<Answer, String> {
+/// What a function that writes answers at the request's place, in the run whose length is argument i, as the oracle spells it: of the
+/// new place the position alone, since the base address stays. Position numbers beyond usize are not asked.
+fn written(
+    r: &Request,
+    i: usize,
+    tail: usize,
+    write: impl FnOnce(&mut [u8], Place) -> Result<Place, Refusal>,
+) -> Result<Answer, String> {
+    let mut watched = Watched::new(&r.run(i), tail);
+    let (base, position) = (Address(r.place().base), WordPos(r.place().position as usize));
+    let at = Place { base, position };
+    if at.address() != Address(r.place().address()) {
+        return Err(format!("{at:x?} is said to have {:x?}", at.address()));
+    }
+    let answer = write(watched.run(), at);
     let run = watched.words()?;
     let said = match answer {
-        Ok(position) => Said::Numbers(vec![position.0 as u64]),
+        Ok(end) if end.base != base => return Err(format!("the base became {:x?}", end.base)),
+        Ok(end) => Said::Numbers(vec![end.position.0 as u64]),
         Err(refusal) => Said::No(refusal.number().into()),
     };
     Ok(Answer { said, run })
-}
-
-/// The same of a target, with the low bits behind the position.
-fn reached(answer: Result<Reached, Refusal>, watched: &mut Watched) -> Result<Answer, String> {
-    let low = answer.ok().and_then(|reached| reached.low12).map(u64::from);
-    Ok(wrote(answer.map(|reached| reached.position), watched)?.carrying(low))
 }
 
 fn numbers(answer: Result<Vec<u64>, Refusal>) -> Answer {
@@ -70,43 +78,35 @@ fn numbers(answer: Result<Vec<u64>, Refusal>) -> Answer {
     }
 }
 
-/// The answer of the C entry of a request. Position numbers beyond usize are not asked.
+/// The answer of the C entry of a request.
 fn asked(r: &Request, tail: usize) -> Result<Answer, String> {
-    let [a, b, c, d, e, f, g] = r.args;
-    let at = |position: u64| WordPos(position as usize);
-    let run = |i: usize| Watched::new(&r.run(i), tail);
+    let [a, b, c, d, e, ..] = r.args;
     match r.entry {
-        MOVE => {
-            let mut w = run(2);
-            let answer = vaimalofo::mov(w.run(), at(d), a, b as u32);
-            wrote(answer, &mut w)
-        }
+        MOVE => written(r, 2, tail, |run, at| vaimalofo::mov(run, at, a, b as u32)),
         PATCHABLE_MOVE => {
-            let mut w = run(3);
-            let answer = vaimalofo::patchable_mov(w.run(), at(e), a, b as u32, c as u32);
-            wrote(answer, &mut w)
+            written(r, 3, tail, |run, at| vaimalofo::patchable_mov(run, at, a, b as u32, c as u32))
         }
         ENCODE_LOGICAL => {
             let fields = vaimalofo::logical_fields(a, b as u32);
             Ok(numbers(fields.map(|f| vec![f.n.into(), f.s.into(), f.r.into()])))
         }
         LOGICAL_WORD => {
-            let mut w = run(5);
-            let instruction =
-                Logical { operation: a as u32, width: c as u32, rn: d as u32, rd: e as u32 };
-            let answer = vaimalofo::logical_word(w.run(), at(g), instruction, b);
-            wrote(answer, &mut w)
+            let (operation, width, rn, rd) = (a as u32, c as u32, d as u32, e as u32);
+            let instruction = Logical { operation, width, rn, rd };
+            written(r, 5, tail, |run, at| vaimalofo::logical_word(run, at, instruction, b))
         }
-        DISP_IMM => {
-            let mut w = run(3);
-            let distance = ByteDistance(c as i64);
-            let answer = vaimalofo::displacement(w.run(), at(e), a as u32, b as u32, distance);
-            wrote(answer, &mut w)
-        }
+        DISP_IMM => written(r, 3, tail, |run, at| {
+            vaimalofo::displacement(run, at, a as u32, b as u32, ByteDistance(c as i64))
+        }),
         DISP_TARGET => {
-            let mut w = run(4);
-            let answer = vaimalofo::displacement_to(w.run(), at(f), a as u32, b as u32, c, d);
-            reached(answer, &mut w)
+            let mut low = None;
+            let answer = written(r, 3, tail, |run, at| {
+                let Reached { place, low12 } =
+                    vaimalofo::displacement_to(run, at, a as u32, b as u32, Address(c))?;
+                low = low12.map(u64::from);
+                Ok(place)
+            });
+            Ok(answer?.carrying(low))
         }
         READ_DISP => Ok(match vaimalofo::read_displacement(a as u32, b as u32) {
             Ok(distance) => Answer::wide(distance.0 as u64),

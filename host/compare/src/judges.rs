@@ -1,4 +1,8 @@
 //! Outside judges: words that the C entries give, handed over a pipe to scripts that ask GNU as and ld, objdump and qemu-aarch64.
+//!
+//! But for forms, half of the samples are written at a base address just below 2^64. Of the tools GNU ld alone puts an instruction there;
+//! QEMU and GNU as have addresses of their own. Moves and logical words are the same at any address, and of a displacement GNU as is
+//! told the distance.
 
 use std::fmt::Write as _;
 use std::io::{ErrorKind, Write};
@@ -8,10 +12,10 @@ use std::process::{Command, Stdio};
 use oracle::document::displacements::{page, FORMATS};
 use oracle::document::logical::masks;
 use oracle::lists::random::Random;
-use vaimalofo::{ByteDistance, Logical, Reached, Refusal, WordPos};
+use vaimalofo::{Address, ByteDistance, Logical, Place, Reached, Refusal, WordPos};
 
 use crate::parts::own_base;
-use crate::values;
+use crate::{at_zero, values};
 
 /// Lines that a script is given at a time.
 const BATCH: usize = 20_000;
@@ -25,10 +29,11 @@ pub fn run(samples: usize) -> bool {
     let logical =
         judged("logical_as.py", "logical words, by GNU as and objdump", &logical(samples));
     let near = judged("displacements_as.py", "displacements, by GNU as", &displacements(samples));
-    let paged = judged("pages_ld.py", "ADRPs with their low bits, by GNU ld", &pages(samples));
+    let reached =
+        judged("targets_ld.py", "targets, ADRPs with their low bits, by GNU ld", &targets(samples));
     let formed =
         judged("forms_objdump.py", "words at all formats, by objdump", &forms(samples * FORMS));
-    moved && logical && near && paged && formed
+    moved && logical && near && reached && formed
 }
 
 /// One judge's verdict on the lines, batch by batch. A missing tool or script is said and is no failure.
@@ -67,6 +72,22 @@ fn ask(script: &Path, text: &str) -> std::io::Result<(String, bool)> {
     Ok((String::from_utf8_lossy(&output.stdout).into_owned(), output.status.success()))
 }
 
+/// A run of eight words, before a call.
+const RUN: [u8; 32] = [0; 32];
+
+/// A place in it from which four words have room: at a base address just below 2^64, where addresses wrap, or at any.
+fn place(random: &mut Random) -> Place {
+    let base = match random.below(2) {
+        0 => values::high_base(random),
+        _ => random.value() >> random.one_of(&[0, 0, 32, 44]) & !3,
+    };
+    Place { base: Address(base), position: WordPos(random.below(5) as usize) }
+}
+
+fn word_at(run: &[u8], at: Place) -> u32 {
+    vaimalofo::words(run)[at.position.0]
+}
+
 /// `VALUE RD WORD..`: mixed values as moves, and every fourth as a patchable move, at 64 and 32 in turn.
 fn moves(samples: usize) -> Vec<String> {
     let mut random = Random::new(4 << 48);
@@ -75,15 +96,15 @@ fn moves(samples: usize) -> Vec<String> {
 
 fn moved(random: &mut Random, i: u64) -> String {
     let (value, rd) = (values::mixed(random, i / 4), random.below(31) as u32);
-    let mut run = [0; 16];
+    let (mut run, at) = (RUN, place(random));
     let (left, end) = match i % 8 {
-        3 => (value, vaimalofo::patchable_mov(&mut run, WordPos(0), value, 64, rd)),
-        7 => (value & 0xFFFF_FFFF, vaimalofo::patchable_mov(&mut run, WordPos(0), value, 32, rd)),
-        _ => (value, vaimalofo::mov(&mut run, WordPos(0), value, rd)),
+        3 => (value, vaimalofo::patchable_mov(&mut run, at, value, 64, rd)),
+        7 => (value & 0xFFFF_FFFF, vaimalofo::patchable_mov(&mut run, at, value, 32, rd)),
+        _ => (value, vaimalofo::mov(&mut run, at, value, rd)),
     };
     let mut line = format!("{left:x} {rd}");
-    let WordPos(count) = end.expect("the register is below 31 and there is room");
-    for word in &vaimalofo::words(&run)[..count] {
+    let end = end.expect("the register is below 31 and there is room");
+    for word in &vaimalofo::words(&run)[at.position.0..end.position.0] {
         write!(line, " {word:08x}").expect("a string can be written");
     }
     line + "\n"
@@ -111,16 +132,16 @@ fn logical(samples: usize) -> Vec<String> {
 
 fn logical_line(random: &mut Random, width: u32, value: u64) -> String {
     let [operation, rn, rd] = [4, 32, 32].map(|n| random.below(n) as u32);
-    let mut run = [0; 4];
+    let (mut run, at) = (RUN, place(random));
     let instruction = Logical { operation, width, rn, rd };
-    let word = match vaimalofo::logical_word(&mut run, WordPos(0), instruction, value) {
-        Ok(_) => format!("{:08x}", vaimalofo::words(&run)[0]),
+    let word = match vaimalofo::logical_word(&mut run, at, instruction, value) {
+        Ok(_) => format!("{:08x}", word_at(&run, at)),
         Err(_) => "no".to_string(),
     };
     format!("{operation} {width} {rn} {rd} {value:x} {word}\n")
 }
 
-/// `FORMAT BASE DISTANCE WORD`: the ends of each format, then distances in its range.
+/// `FORMAT BASE DISTANCE WORD`: the ends of each format, then distances in its range; by distance, or by the target that lies so far.
 fn displacements(samples: usize) -> Vec<String> {
     let mut random = Random::new(6 << 48);
     let mut lines = Vec::new();
@@ -138,40 +159,42 @@ fn displacements(samples: usize) -> Vec<String> {
 }
 
 fn displaced(random: &mut Random, format: usize, distance: i64) -> String {
-    let base = own_base(format, random);
-    let mut run = [0; 4];
-    let at = ByteDistance(distance);
-    vaimalofo::displacement(&mut run, WordPos(0), format as u32, base, at)
-        .expect("the distance is in range and the field is clear");
-    format!("{format} {base:08x} {distance} {:08x}\n", vaimalofo::words(&run)[0])
+    let (number, base) = (format as u32, own_base(format, random));
+    let (mut run, at) = (RUN, place(random));
+    let target = Address(page(number, at.address().0).wrapping_add_signed(distance));
+    let answer = match random.below(2) {
+        0 => vaimalofo::displacement(&mut run, at, number, base, ByteDistance(distance)),
+        _ => vaimalofo::displacement_to(&mut run, at, number, base, target).map(|to| to.place),
+    };
+    answer.expect("the distance is in range and the field is clear");
+    format!("{format} {base:08x} {distance} {:08x}\n", word_at(&run, at))
 }
 
-/// `ADDRESS BASE TARGET WORD LOW`, or `far`: ADRPs between any two pages, in range and now and then up to 16 pages beyond it, at any
-/// place in them.
-fn pages(samples: usize) -> Vec<String> {
+/// `ADDRESS BASE TARGET WORD`, of an ADRP with the low bits behind it, or `far`: every second an ADRP, to any place in a page, and else
+/// each format in turn; targets in range, and now and then up to 16 steps beyond it.
+fn targets(samples: usize) -> Vec<String> {
     let mut random = Random::new(10 << 48);
-    (0..samples).map(|_| paged(&mut random)).collect()
+    (0..samples).map(|i| targeted(&mut random, if i % 2 == 0 { 4 } else { i / 2 % 6 })).collect()
 }
 
-fn paged(random: &mut Random) -> String {
-    let row = &FORMATS[4];
-    let pages = ((row.greatest - row.least) / row.step) as u64 + 1;
+fn targeted(random: &mut Random, format: usize) -> String {
+    let (number, row, base) = (format as u32, &FORMATS[format], own_base(format, random));
+    let all = ((row.greatest - row.least) / row.step) as u64 + 1;
     let steps = match random.below(16) {
         0 => random.below(32).wrapping_sub(16),
-        1 => pages - 16 + random.below(32),
-        _ => random.below(pages),
+        1 => all - 16 + random.below(32),
+        _ => random.below(all),
     };
-    let address = random.value() >> random.one_of(&[0, 0, 32, 44]) & !3;
-    let least = page(4, address).wrapping_add_signed(row.least);
-    let target = least.wrapping_add(steps.wrapping_mul(row.step as u64)) + random.below(4096);
-    let base = own_base(4, random);
-    let mut run = [0; 4];
-    let said = match vaimalofo::displacement_to(&mut run, WordPos(0), 4, base, target, address) {
-        Ok(Reached { low12: Some(low), .. }) => {
-            format!("{:08x} {low}", vaimalofo::words(&run)[0])
-        }
+    let (mut run, at) = (RUN, place(random));
+    let Address(address) = at.address();
+    let least = page(number, address).wrapping_add_signed(row.least);
+    let inside = if format == 4 { random.below(4096) } else { 0 };
+    let target = least.wrapping_add(steps.wrapping_mul(row.step as u64)).wrapping_add(inside);
+    let said = match vaimalofo::displacement_to(&mut run, at, number, base, Address(target)) {
+        Ok(Reached { low12: Some(low), .. }) => format!("{:08x} {low}", word_at(&run, at)),
+        Ok(Reached { low12: None, .. }) => format!("{:08x}", word_at(&run, at)),
         Err(Refusal::Range) => "far".to_string(),
-        other => format!("{other:?}"),
+        Err(refusal) => refusal.to_string(),
     };
     format!("{address:x} {base:08x} {target:x} {said}\n")
 }
@@ -199,7 +222,7 @@ fn form_line(word: u32) -> String {
     let mut said = String::new();
     for (format, row) in (0..).zip(&FORMATS) {
         let step = ByteDistance(row.step);
-        let answer = vaimalofo::displacement(&mut run, WordPos(0), format, word, step);
+        let answer = vaimalofo::displacement(&mut run, at_zero(0), format, word, step);
         let form = answer != Err(Refusal::WrongForm);
         assert_eq!(vaimalofo::has_form(format, word), Ok(form), "{word:08x} at format {format}");
         if form {

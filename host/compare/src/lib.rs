@@ -8,6 +8,14 @@ pub mod tally;
 pub mod values;
 pub mod work;
 
+use vaimalofo::{Address, Place, WordPos};
+
+/// A place of a run at base address 0.
+#[inline]
+pub const fn at_zero(position: usize) -> Place {
+    Place { base: Address(0), position: WordPos(position) }
+}
+
 /// Words into a run of bytes at a word position, low byte first.
 #[inline]
 pub fn put(run: &mut [u8], at: usize, words: &[u32]) {

@@ -14,7 +14,7 @@ const RTLD_NOW: c_int = 2;
 /// The two entries that are timed, called by pointer.
 #[derive(Clone, Copy)]
 pub struct Library {
-    mov: unsafe extern "C" fn(*mut u8, usize, usize, u64, u32) -> u64,
+    mov: unsafe extern "C" fn(*mut u8, usize, u64, usize, u64, u32) -> u64,
     logical_fields: unsafe extern "C" fn(u64, u32) -> u64,
 }
 
@@ -22,7 +22,8 @@ impl Library {
     /// The entries of a shared object, or nothing where it cannot be loaded or lacks one of them.
     ///
     /// # Safety
-    /// It is made of this project's static library, at a state at which the two entries have these types.
+    /// It is made of this project's static library, at a state at which the two entries have these types: `vaimalofo_move` takes bytes,
+    /// length, base address, position, value and register, as from request g on. Before, it took no base address; nothing here can tell.
     pub unsafe fn load(path: &str) -> Option<Library> {
         let path = CString::new(path).ok()?;
         let library = dlopen(path.as_ptr(), RTLD_NOW);
@@ -31,11 +32,11 @@ impl Library {
         Some(Library { mov: mem::transmute(mov), logical_fields: mem::transmute(logical_fields) })
     }
 
-    /// How many words a move wrote, above the refusal's number.
+    /// How many words a move wrote at base address 0, above the refusal's number.
     #[inline]
     pub fn mov(self, bytes: &mut [u8], position: usize, value: u64, register: u32) -> u64 {
         // SAFETY: pointer and length are the slice's, lent for the call.
-        unsafe { (self.mov)(bytes.as_mut_ptr(), bytes.len(), position, value, register) }
+        unsafe { (self.mov)(bytes.as_mut_ptr(), bytes.len(), 0, position, value, register) }
     }
 
     /// The fields above the refusal's number.

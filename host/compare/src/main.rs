@@ -12,7 +12,7 @@ use oracle::replay::classes::Class;
 const USAGE: &str = "compare --short            a slice of everything, for the gate
 compare --full             everything: all 2^32 values, all distances, 100 million mixed values
   --slice K/N              of --full only the items that leave K when divided by N (N odd)
-  --only NAME              one part: fields, moves, bases, displacements, mixed, damaged
+  --only NAME              one part: fields, moves, bases, displacements, mixed, damaged, wrapping, unaligned
   --threads T              (else as many as there are processors)
 compare --judges [N]       N samples of each kind for GNU as and ld, objdump and qemu-aarch64 (else 20000)";
 
@@ -56,12 +56,16 @@ fn options(mut words: impl Iterator<Item = String>) -> Option<Options> {
 
 /// The parts, at the scale asked for.
 fn all_parts(options: &Options) -> Vec<Part> {
-    let (values, distances, mixed, damaged) = match options.full {
+    let (values, distances, [mixed, damaged, wrapping, unaligned]) = match options.full {
         true => {
-            let share = |count: u64| count / options.slice.by;
-            (options.slice, options.slice, share(100_000_000), share(100_000_000))
+            let counts = [100_000_000, 100_000_000, 10_000_000, 10_000_000];
+            (options.slice, options.slice, counts.map(|count| count / options.slice.by))
         }
-        false => (Slice { rest: 41, by: 257 }, Slice { rest: 5, by: 17 }, 500_000, 1_000_000),
+        false => (
+            Slice { rest: 41, by: 257 },
+            Slice { rest: 5, by: 17 },
+            [500_000, 1_000_000, 100_000, 200_000],
+        ),
     };
     vec![
         parts::fields_32(values),
@@ -70,6 +74,8 @@ fn all_parts(options: &Options) -> Vec<Part> {
         parts::displacements(distances),
         parts::mixed(mixed),
         parts::damaged(damaged),
+        parts::wrapping(wrapping),
+        parts::unaligned(unaligned),
     ]
 }
 
@@ -89,6 +95,7 @@ fn what_the_rust_does(class: Class) -> &'static str {
         Class::TargetFromFour => "counts targets from four bytes on",
         Class::TargetOverflow => "overflows at a target too far for 64 signed bits",
         Class::PageTarget => "refuses an ADRP to a target inside a page",
+        Class::Unaligned => "has no base address that it could refuse",
         Class::WrongForm => "places a distance in any base, or refuses one off the step",
         Class::Added => "has no such entry, or cannot be asked this (no room, for one)",
         _ => "differs in a class that no C entry has",

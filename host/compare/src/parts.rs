@@ -1,18 +1,20 @@
 //! The parts of the comparison.
 
 use oracle::document::displacements::{self, FORMATS};
+use oracle::document::words::Place;
 use oracle::document::{logical, moves, No};
 use oracle::lists::random::Random;
+use oracle::replay::by_document;
 use oracle::replay::classes::Class;
 use oracle::replay::request::{entry::*, Request};
 use oracle::rust;
-use vaimalofo::{ByteDistance, Fields, Refusal, WordPos};
+use vaimalofo::{ByteDistance, Fields, Refusal};
 
 use crate::calls::compare;
-use crate::put;
 use crate::tally::Tally;
 use crate::values;
 use crate::work::Part;
+use crate::{at_zero, put};
 
 /// The items that leave `rest` when their number is divided by `by`; `by` is odd, so that a slice has all low bits in it.
 #[derive(Clone, Copy)]
@@ -91,8 +93,8 @@ fn move_of(value: u64, tally: &mut Tally) {
     let mut expected = RUN;
     put(&mut expected, position, &document);
     let mut run = RUN;
-    let answer = vaimalofo::mov(&mut run, WordPos(position), value, rd);
-    if answer != Ok(WordPos(position + document.len())) || run != expected {
+    let answer = vaimalofo::mov(&mut run, at_zero(position), value, rd);
+    if answer != Ok(at_zero(position + document.len())) || run != expected {
         return tally.fails(|| {
             format!("move of {value:x} to {rd}: {answer:?} {run:x?}, document 01 {document:x?}")
         });
@@ -130,12 +132,12 @@ fn check_base(format: u32, base: u32, tally: &mut Tally) {
     let step = FORMATS[format as usize].step;
     let document = displacements::disp_word(format, base, step);
     let mut run = RUN;
-    let answer = vaimalofo::displacement(&mut run, WordPos(1), format, base, ByteDistance(step));
+    let answer = vaimalofo::displacement(&mut run, at_zero(1), format, base, ByteDistance(step));
     let mut expected = RUN;
     if let Ok(word) = document {
         put(&mut expected, 1, &[word]);
     }
-    if answer.map_err(number) != document.map(|_| WordPos(2)) || run != expected {
+    if answer.map_err(number) != document.map(|_| at_zero(2)) || run != expected {
         return tally.fails(|| {
             let document = document.map(|word| format!("{word:08x}"));
             format!(
@@ -193,6 +195,11 @@ fn span(format: usize) -> (i64, u64) {
     (first, ((past - first) / STRIDES[format]) as u64)
 }
 
+/// How many distances are asked of all formats.
+fn distances() -> u64 {
+    (0..6).map(|format| span(format).1).sum()
+}
+
 /// Distances around the ends of each format's range and around 0: they are asked in every slice.
 fn ends() -> Vec<(usize, i64)> {
     let around = |(format, end, step)| (-4..=4).map(move |k: i64| (format, end + k * step));
@@ -204,7 +211,7 @@ fn ends() -> Vec<(usize, i64)> {
 
 /// Distances into words, targets into words, and words read.
 pub fn displacements(slice: Slice) -> Part {
-    let (all, ends) = ((0..6).map(|format| span(format).1).sum(), ends());
+    let (all, ends) = (distances(), ends());
     let first = ends.len() as u64;
     Part {
         name: "displacements",
@@ -259,19 +266,27 @@ fn check_distance(format: usize, distance: i64, random: &mut Random, tally: &mut
     let tail = random.below(4) as usize;
     compare(&Request::new(DISP_IMM, &[number, base, distance as u64, 2, 1]), tail, tally);
     // The Rust's buffer has an offset of 32 bits; a higher address is compared with document 01 alone.
-    let address = random.value() >> random.one_of(&[0, 32, 44]);
-    // An ADRP goes to any place of a page.
-    let place = if format == 4 { random.below(2) * random.below(1024) } else { 0 };
-    let origin = displacements::page(number as u32, address);
-    let target = origin.wrapping_add_signed(distance).wrapping_add(place);
-    compare(&Request::new(DISP_TARGET, &[number, base, target, address, 1, 0]), tail, tally);
+    let first = match random.below(4) {
+        0 => 0,
+        _ => random.value() >> random.one_of(&[0, 32, 44]) & !3,
+    };
+    let at = Place { base: first, position: 1 };
+    let target = target(format, distance, at, random);
+    compare(&Request::writing(DISP_TARGET, &[number, base, target], 2, at), tail, tally);
     let mut run = [0; 4];
-    let at = ByteDistance(distance);
-    let word = match vaimalofo::displacement(&mut run, WordPos(0), number as u32, base as u32, at) {
+    let by = ByteDistance(distance);
+    let word = match vaimalofo::displacement(&mut run, at_zero(0), number as u32, base as u32, by) {
         Ok(_) => vaimalofo::words(&run)[0],
         Err(_) => random.value() as u32,
     };
     compare(&Request::new(READ_DISP, &[word.into(), number]), 0, tally);
+}
+
+/// The target that lies so far from a place; an ADRP's from its page, and half of these up to 1023 bytes on, so at any place of a page.
+fn target(format: usize, distance: i64, at: Place, random: &mut Random) -> u64 {
+    let inside = if format == 4 { random.below(2) * random.below(1024) } else { 0 };
+    let origin = displacements::page(format as u32, at.address());
+    origin.wrapping_add_signed(distance).wrapping_add(inside)
 }
 
 // ---- mixed values
@@ -315,10 +330,28 @@ pub fn damaged(count: u64) -> Part {
     }
 }
 
+/// The entries that write, and all.
+const WRITING: [u64; 5] = [MOVE, PATCHABLE_MOVE, LOGICAL_WORD, DISP_IMM, DISP_TARGET];
+const ENTRIES: [u64; 8] = [
+    MOVE,
+    PATCHABLE_MOVE,
+    ENCODE_LOGICAL,
+    LOGICAL_WORD,
+    DISP_IMM,
+    DISP_TARGET,
+    READ_DISP,
+    HAS_FORM,
+];
+
 fn damaged_item(item: u64, tally: &mut Tally) {
-    let mut random = random(3, item);
-    let r = &mut random;
-    let value = values::mixed(r, item / 8);
+    let (request, tail) = damage(ENTRIES[item as usize % 8], item / 8, &mut random(3, item));
+    compare(&request, tail, tally);
+}
+
+/// A damaged request, with a value of the kind of that number, and the tail of its run. The base address is 0, of every second target any
+/// below 2^32.
+fn damage(entry: u64, kind: u64, r: &mut Random) -> (Request, usize) {
+    let value = values::mixed(r, kind);
     let (length, tail) = (r.below(9), r.below(4) as usize);
     let position = match r.below(4) {
         0 => r.value(),
@@ -328,21 +361,22 @@ fn damaged_item(item: u64, tally: &mut Tally) {
     let width = one_in_two(r, &[32, 64]);
     let (format, operation) = (one_in_two(r, &[0, 1, 2, 3, 4, 5]), one_in_two(r, &[0, 1, 2, 3]));
     let (rn, rd) = (one_in_two(r, &[0, 30, 31, 32]), one_in_two(r, &[0, 30, 31, 32]));
-    let base = base(format as usize % 6, r);
-    let request = match item % 8 {
-        0 => Request::new(MOVE, &[value, rd, length, position]),
-        1 => Request::new(PATCHABLE_MOVE, &[value, width, rd, length, position]),
-        2 => Request::new(ENCODE_LOGICAL, &[value, width]),
-        3 => Request::new(LOGICAL_WORD, &[operation, value, width, rn, rd, length, position]),
-        4 => Request::new(DISP_IMM, &[format, base, near(value, r), length, position]),
-        5 => Request::new(
-            DISP_TARGET,
-            &[format, base, near(value, r), r.value() >> 32, length, position],
-        ),
-        6 => Request::new(READ_DISP, &[value & 0xFFFF_FFFF, format]),
-        _ => Request::new(HAS_FORM, &[format, base]),
+    let word = base(format as usize % 6, r);
+    let at = Place { base: 0, position };
+    let request = match entry {
+        MOVE => Request::writing(entry, &[value, rd], length, at),
+        PATCHABLE_MOVE => Request::writing(entry, &[value, width, rd], length, at),
+        ENCODE_LOGICAL => Request::new(entry, &[value, width]),
+        LOGICAL_WORD => Request::writing(entry, &[operation, value, width, rn, rd], length, at),
+        DISP_IMM => Request::writing(entry, &[format, word, near(value, r)], length, at),
+        DISP_TARGET => {
+            let (target, base) = (near(value, r), r.below(2) * (r.value() >> 32 & !3));
+            Request::writing(entry, &[format, word, target], length, Place { base, position })
+        }
+        READ_DISP => Request::new(entry, &[value & 0xFFFF_FFFF, format]),
+        _ => Request::new(HAS_FORM, &[format, word]),
     };
-    compare(&request, tail, tally);
+    (request, tail)
 }
 
 /// One of the numbers given, or one that is small, next to a power of two, or any of 32 bits.
@@ -358,5 +392,79 @@ fn near(value: u64, random: &mut Random) -> u64 {
     match random.below(2) {
         0 => value,
         _ => (value as i64 >> random.below(64)) as u64,
+    }
+}
+
+// ---- base addresses
+
+/// Each entry that writes where addresses wrap, and damaged calls of them.
+pub fn wrapping(count: u64) -> Part {
+    let (all, ends) = (distances(), ends());
+    Part {
+        name: "wrapping",
+        what: format!("{count} times each entry that writes, and one of them damaged, at base addresses from 2^64 - 32 on, where addresses wrap"),
+        items: count,
+        check: Box::new(move |i, tally| {
+            let mut random = random(11, i);
+            let by = match random.below(2) {
+                0 => random.one_of(&ends),
+                _ => distance_of(random.below(all)),
+            };
+            for (request, tail) in wrapped(i, by, &mut random) {
+                compare(&request, tail, tally);
+            }
+        }),
+    }
+}
+
+/// The requests of an item, with their tails.
+fn wrapped(item: u64, (format, distance): (usize, i64), r: &mut Random) -> [(Request, usize); 6] {
+    let (value, rd, rn) = (values::mixed(r, item), r.below(31), r.below(32));
+    let (operation, width) = (r.below(4), r.one_of(&[32, 64]));
+    let (number, base) = (format as u64, base(format, r));
+    let at = Place { base: values::high_base(r), position: around(r) };
+    let target = target(format, distance, at, r);
+    let tail = r.below(4) as usize;
+    let good = |entry, given: &[u64]| (Request::writing(entry, given, 8, at), tail);
+    let (damaged, damaged_tail) = damage(r.one_of(&WRITING), item, r);
+    [
+        good(MOVE, &[value, rd]),
+        good(PATCHABLE_MOVE, &[value, width, rd]),
+        good(LOGICAL_WORD, &[operation, value, width, rn, rd]),
+        good(DISP_IMM, &[number, base, distance as u64]),
+        good(DISP_TARGET, &[number, base, target]),
+        (damaged.moved(at.base), damaged_tail),
+    ]
+}
+
+/// A position in a run of eight words; one time in eight one up to 8 from a multiple of 2^62, of which four times as much wraps.
+fn around(random: &mut Random) -> u64 {
+    match random.below(8) {
+        0 => (random.below(4) << 62).wrapping_add(random.below(17)).wrapping_sub(8),
+        _ => random.below(8),
+    }
+}
+
+/// Damaged and other calls of the entries that write, at base addresses that are not multiples of 4: all get 15.
+pub fn unaligned(count: u64) -> Part {
+    Part {
+        name: "unaligned",
+        what: format!("{count} calls of the entries that write, damaged or not, at base addresses that leave 1, 2 or 3 when divided by 4"),
+        items: count,
+        check: Box::new(unaligned_item),
+    }
+}
+
+fn unaligned_item(item: u64, tally: &mut Tally) {
+    let mut random = random(12, item);
+    let (request, tail) = damage(WRITING[item as usize % 5], item / 5, &mut random);
+    let base = match random.below(2) {
+        0 => values::high_base(&mut random),
+        _ => random.value() >> random.below(64) & !3,
+    };
+    let request = request.moved(base + 1 + random.below(3));
+    match by_document::answer(&request).is_no(15) {
+        true => compare(&request, tail, tally),
+        false => tally.fails(|| format!("{request}: document 01 does not refuse it with 15")),
     }
 }

@@ -27,6 +27,11 @@ pub fn halfwords(random: &mut Random) -> u64 {
     })
 }
 
+/// A base address from 2^64 - 32 on: of a run of eight words there, the last ones reach 2^64 or go around it.
+pub fn high_base(random: &mut Random) -> u64 {
+    !3 - 4 * random.below(8)
+}
+
 /// Value number i of the mixed ones, by i modulo 8: any 64 bits; halfwords of 0, FFFF or any (twice, the second cut to 32 bits); any 32
 /// bits; a mask; a mask with one bit turned over; a power of two, less 0 to 2; and the complement of a number below 2^20.
 pub fn mixed(random: &mut Random, i: u64) -> u64 {

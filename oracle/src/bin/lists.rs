@@ -102,6 +102,7 @@ fn report(made: &Made) {
     for (class, count) in &made.classes {
         println!("{class:?}: {count}");
     }
-    let [same, other] = [&made.replay, &made.differences].map(|pair| pair.stdin.len() / 64);
+    let [same, other] =
+        [&made.replay, &made.differences].map(|pair| pair.stdin.len() / Request::BYTES);
     println!("{same} equal, {other} different");
 }

@@ -1,7 +1,9 @@
-//! Module 7: displacements; with document 02's request h, by which a base must have its format's form,
-//! and request f, by which an ADRP goes to any target.
+//! Module 7: displacements; with document 02's request h, by which a base must have its format's
+//! form, request f, by which an ADRP goes to any target, and request g, by which a target is
+//! reached from the address of the place that is written.
 
-use super::{No, words};
+use super::No;
+use super::words::{self, Place};
 
 /// A row of the table of formats.
 pub struct Format {
@@ -141,15 +143,26 @@ pub fn disp_word(format: u32, base: u32, distance: i64) -> Result<u32, No> {
     Ok(format.place(base, (distance / format.step) as u64))
 }
 
-/// Order 7, 11, 6, 4, 5, 8.
+/// Order 15, 7, 11, 6, 4, 5, 8.
 pub fn emit_disp_imm(
     run: &mut [u32],
-    position: u64,
+    at: Place,
     format: u32,
     base: u32,
     distance: i64,
 ) -> Result<u64, No> {
-    words::put(run, position, &[disp_word(format, base, distance)?])
+    words::put(run, at, disp_word(format, base, distance).map(|word| vec![word]))
+}
+
+/// The same to a target, from the address of the place; no 4 at format 4.
+pub fn emit_disp_target(
+    run: &mut [u32],
+    at: Place,
+    format: u32,
+    base: u32,
+    target: u64,
+) -> Result<u64, No> {
+    emit_disp_imm(run, at, format, base, distance(format, target, at.address()))
 }
 
 /// An address as a format counts from it and to it: for ADRP the page that it is on.

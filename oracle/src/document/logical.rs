@@ -3,7 +3,8 @@
 use std::collections::HashMap;
 use std::sync::OnceLock;
 
-use super::{No, words};
+use super::No;
+use super::words::{self, Place};
 
 /// N, S and R.
 pub type Fields = [u32; 3];
@@ -79,15 +80,15 @@ fn logical_word(operation: u32, value: u64, width: u32, rn: u32, rd: u32) -> Res
     Ok(base + (n << 22) + (r << 16) + (s << 10) + (rn << 5) + rd)
 }
 
-/// The word of an operation, written from the position on. Order 7, 1, 2, 3, 8.
+/// The word of an operation, written at a place. Order 15, 7, 1, 2, 3, 8.
 pub fn put_logical_word(
     run: &mut [u32],
-    position: u64,
+    at: Place,
     operation: u32,
     value: u64,
     width: u32,
     (rn, rd): (u32, u32),
 ) -> Result<u64, No> {
-    let word = logical_word(operation, value, width, rn, rd)?;
-    words::put(run, position, &[word])
+    let word = logical_word(operation, value, width, rn, rd);
+    words::put(run, at, word.map(|word| vec![word]))
 }

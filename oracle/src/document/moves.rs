@@ -1,6 +1,7 @@
 //! Modules 5 and 6: move sequences and patchable moves.
 
-use super::{No, words};
+use super::No;
+use super::words::{self, Place};
 
 const MOVZ: u32 = 0xD280_0000;
 const MOVN: u32 = 0x9280_0000;
@@ -60,14 +61,9 @@ pub fn move_words(value: u64, rd: u32) -> Result<Vec<u32>, No> {
     Ok(if value <= 0xFFFF_FFFF { short(low, high, rd) } else { long(value, rd) })
 }
 
-/// Order 2, 8.
-pub fn encode_mov_sequence64(
-    run: &mut [u32],
-    position: u64,
-    value: u64,
-    rd: u32,
-) -> Result<u64, No> {
-    words::put(run, position, &move_words(value, rd)?)
+/// Order 15, 2, 8.
+pub fn encode_mov_sequence64(run: &mut [u32], at: Place, value: u64, rd: u32) -> Result<u64, No> {
+    words::put(run, at, move_words(value, rd))
 }
 
 /// Four words at 64, two at 32. Order 1, 2.
@@ -85,13 +81,13 @@ pub fn patchable_words(value: u64, size: u32, rd: u32) -> Result<Vec<u32>, No> {
     Ok(halves.map(|(place, half)| wide(base(place), place, half, rd)).collect())
 }
 
-/// Order 1, 2, 8.
+/// Order 15, 1, 2, 8.
 pub fn encode_patchable_mov_imm(
     run: &mut [u32],
-    position: u64,
+    at: Place,
     value: u64,
     size: u32,
     rd: u32,
 ) -> Result<u64, No> {
-    words::put(run, position, &patchable_words(value, size, rd)?)
+    words::put(run, at, patchable_words(value, size, rd))
 }

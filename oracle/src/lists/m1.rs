@@ -1,9 +1,9 @@
 //! Module 1. Bit test: edge values at every n to 40 and at large n, and random pairs. Mask: every n
-//! to 70. Writers: every length at positions on both sides of the end with 0 to 5 words. Numbers
-//! that are no entry's.
+//! to 70. Writers: every length at positions on both sides of the end with 0 to 5 words; 0 to 4
+//! words from every base address. Numbers that are no entry's.
 
 use super::random::Random;
-use super::{List, U32};
+use super::{List, U32, placed};
 use crate::replay::request::{Request, entry::*};
 
 pub const LIST: List =
@@ -26,6 +26,10 @@ fn requests() -> Vec<Request> {
     writers(&mut list);
     for entry in [0, 1, 15, 255, 1000, (1 << 32) + BIT_TEST, u64::MAX] {
         list.push(Request::new(entry, &[1, 1, 1]));
+    }
+    let [a, b, c, d] = WORDS;
+    for entry in [PUT, PUT_BYTES] {
+        list.extend(placed(entry, &[2, 0, 1, 4].map(|count| [count, a, b, c, d])));
     }
     list
 }

@@ -1,9 +1,10 @@
 //! Module 3. Fields: every encodable value at both widths (at 32 some under other high bits), 4,200
 //! that are not, neighbours by one and two bits among them, wrong widths and random ones. Words:
-//! every combination of right and wrong operation, width, value, registers and room; random ones.
+//! every combination of right and wrong operation, width, value, registers and room; random ones;
+//! and from every base address.
 
 use super::random::Random;
-use super::{List, U32, WRONG_WIDTHS, room};
+use super::{List, U32, WRONG_WIDTHS, placed, room};
 use crate::document::logical;
 use crate::replay::request::{Request, entry::*};
 
@@ -30,8 +31,23 @@ fn requests() -> Vec<Request> {
     list.extend((0..200).map(|_| any(ENCODE_LOGICAL, &mut random)));
     words(&mut list);
     list.extend((0..200).map(|_| any(LOGICAL_WORD, &mut random)));
+    list.extend(placed(LOGICAL_WORD, &GIVEN));
     list
 }
+
+/// Operation, value, width and registers: all right; one wrong, which is 7, 1, 2, 2 and 3; all
+/// wrong, all but the operation, and all but the operation and the width.
+const GIVEN: [[u64; 5]; 9] = [
+    [1, 0xFF, 64, 1, 2],
+    [4, 0xFF, 64, 1, 2],
+    [0, 0xFF, 16, 1, 2],
+    [2, 0xFF, 32, 32, 2],
+    [3, 0xFF, 32, 1, 32],
+    [0, 5, 64, 1, 2],
+    [4, 5, 16, 32, 32],
+    [0, 5, 16, 32, 32],
+    [0, 5, 64, 32, 32],
+];
 
 fn fields(value: u64, width: u32) -> Request {
     Request::new(ENCODE_LOGICAL, &[value, width.into()])

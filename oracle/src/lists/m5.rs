@@ -1,9 +1,10 @@
 //! Module 5. Values of every class of halfwords (0, FFFF, other, in all four places), both sides of
 //! each power of two, a sample of those that one short MOVN spells, and 5,000 random ones; several
-//! registers; runs with every room at every position. Counts of zero halfwords.
+//! registers; runs with every room at every position; sequences of 0 to 4 words and wrong registers
+//! from every base address. Counts of zero halfwords.
 
 use super::random::Random;
-use super::{List, U32, room};
+use super::{List, U32, placed, room};
 use crate::replay::request::{Request, entry::*};
 
 pub const LIST: List = List { number: 5, entries: &[MOVE, COUNT_ZERO_HALF_WORDS], requests, any };
@@ -33,6 +34,9 @@ fn requests() -> Vec<Request> {
         list.push(Request::new(COUNT_ZERO_HALF_WORDS, &[value]));
     }
     list.extend((0..300).map(|_| any(COUNT_ZERO_HALF_WORDS, &mut random)));
+    let mut given = vec![[SAMPLES[3], 7], [0, 31], [u64::MAX, 32], [SAMPLES[4], U32]];
+    given.extend(SAMPLES.map(|value| [value, 30]));
+    list.extend(placed(MOVE, &given));
     list
 }
 

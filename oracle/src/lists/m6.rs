@@ -1,8 +1,8 @@
 //! Module 6. Random values at both sizes, every combination of right and wrong size, register and
-//! room, and runs with every room at every position.
+//! room, and runs with every room at every position; each refusal and both from every base address.
 
 use super::random::Random;
-use super::{List, U32, WRONG_WIDTHS, room};
+use super::{List, U32, WRONG_WIDTHS, placed, room};
 use crate::replay::request::{Request, entry::*};
 
 pub const LIST: List = List { number: 5, entries: &[PATCHABLE_MOVE], requests, any };
@@ -29,6 +29,8 @@ fn requests() -> Vec<Request> {
         }
     }
     list.extend((0..300).map(|_| any(PATCHABLE_MOVE, &mut random)));
+    let given = [[32, 7], [64, 7], [16, 7], [64, 31], [16, 31]];
+    list.extend(placed(PATCHABLE_MOVE, &given.map(|[size, rd]| [value, size, rd])));
     list
 }
 

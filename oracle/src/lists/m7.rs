@@ -3,13 +3,19 @@
 //! single bit set; wrong formats and no room. Targets: the same edges around several addresses, and
 //! ones that wrap past 2^64. Reading: single bits and random words. Forms: every top byte of a base
 //! with several lower bits, the neighbours of each real base by one bit, the bases of the other
-//! formats, every condition with bit 4 clear and set, and refusals that apply at once. Pages: targets at
-//! the ends of a page and inside it, around the ends of the range of pages and of the addresses, at
-//! every format; and 2,500 random ones of an ADRP that are in range.
+//! formats, every condition with bit 4 clear and set, and refusals that apply at once. Pages:
+//! targets at the ends of a page and inside it, around the ends of the range of pages and of the
+//! addresses, at every format; and 2,500 random ones of an ADRP that are in range. Places: right
+//! and wrong ones of each format from every base address, by distance and by target; and targets
+//! that three words share.
+//!
+//! A target is mostly asked from an address (`from_address`), as document 01 has it: the base
+//! address is what gives it at the position.
 
 use super::random::Random;
-use super::{List, U32, room};
+use super::{List, U32, placed, room};
 use crate::document::displacements::{FORMATS, Format, page};
+use crate::document::words::Place;
 use crate::replay::request::{Request, entry::*};
 
 pub const LIST: List =
@@ -47,7 +53,7 @@ fn requests() -> Vec<Request> {
     for number in [6, 7, U32] {
         for base in [0, 0x1400_0000, U32] {
             list.push(Request::new(DISP_IMM, &[number, base, 2, 0, 0]));
-            list.push(Request::new(DISP_TARGET, &[number, base, 2, 0, 0, 0]));
+            list.push(from_address([number, base, 2], 0, [0, 0]));
             list.push(Request::new(READ_DISP, &[base, number]));
             list.push(Request::new(HAS_FORM, &[number, base]));
         }
@@ -67,7 +73,22 @@ fn requests() -> Vec<Request> {
     }
     page_orders(&mut list);
     list.extend((0..2500).map(|_| any_page(&mut random)));
+    places(&mut list);
+    for (number, format) in (0..).zip(&FORMATS) {
+        three_words(&mut list, number, format);
+    }
     list
+}
+
+/// A target from an address. One where no word can stand is rounded down to a multiple of 4, and
+/// the target moves along, so that the distance stays; for ADRP it stays anyway, and so does the
+/// target.
+fn from_address(given: [u64; 3], address: u64, [len, position]: [u64; 2]) -> Request {
+    let [number, word, target] = given;
+    let stands = address & !3;
+    let by = page(number as u32, address) - page(number as u32, stands);
+    let at = Place { base: stands.wrapping_sub(position.wrapping_mul(4)), position };
+    Request::writing(DISP_TARGET, &[number, word, target.wrapping_sub(by)], len, at)
 }
 
 /// Distances at which an answer may turn.
@@ -126,7 +147,7 @@ fn bases(list: &mut Vec<Request>, number: u64, format: &Format) {
         }
         for [len, position] in [[0, 0], [1, 1], [2, 1], [3, 4], [8, u64::MAX]] {
             list.push(Request::new(DISP_IMM, &[number, base, distance, len, position]));
-            list.push(Request::new(DISP_TARGET, &[number, base, distance, 0, len, position]));
+            list.push(from_address([number, base, distance], 0, [len, position]));
         }
     }
 }
@@ -138,7 +159,7 @@ fn targets(list: &mut Vec<Request>, number: u64, format: &Format) {
         let origin = page(number as u32, address);
         for distance in edges(format).into_iter().chain([8]) {
             let target = origin.wrapping_add(distance as u64);
-            list.push(Request::new(DISP_TARGET, &[number, base, target, address, 1, 0]));
+            list.push(from_address([number, base, target], address, [1, 0]));
         }
     }
 }
@@ -163,7 +184,7 @@ fn neighbours(list: &mut Vec<Request>, number: u64, format: &Format) {
         for word in (0..32).map(|bit| base ^ 1 << bit) {
             forms_asked(list, number, format, word);
             let target = 4096 + format.step as u64;
-            list.push(Request::new(DISP_TARGET, &[number, word, target, 4096, 1, 0]));
+            list.push(from_address([number, word, target], 4096, [1, 0]));
         }
         forms_asked(list, number, format, 1 << 32 | base);
         list.push(Request::new(HAS_FORM, &[1 << 32 | number, *base]));
@@ -174,7 +195,7 @@ fn neighbours(list: &mut Vec<Request>, number: u64, format: &Format) {
 fn other_forms(list: &mut Vec<Request>, number: u64, format: &Format) {
     for word in BASES.concat() {
         forms_asked(list, number, format, word);
-        list.push(Request::new(DISP_TARGET, &[number, word, 0, 0, 1, 0]));
+        list.push(from_address([number, word, 0], 0, [1, 0]));
         list.push(Request::new(READ_DISP, &[word, number]));
         list.push(Request::new(READ_DISP, &[word | 0x00A5_5AA0, number]));
     }
@@ -190,7 +211,7 @@ fn orders(list: &mut Vec<Request>, number: u64, format: &Format) {
             for position in [0, 1] {
                 for number in [number, 6] {
                     list.push(Request::new(DISP_IMM, &[number, base, distance, 1, position]));
-                    list.push(Request::new(DISP_TARGET, &[number, base, distance, 0, 1, position]));
+                    list.push(from_address([number, base, distance], 0, [1, position]));
                 }
             }
         }
@@ -214,7 +235,7 @@ fn pages(list: &mut Vec<Request>, number: u64) {
             for place in PLACES {
                 let target = page(4, address).wrapping_add(distance as u64) + place;
                 let base = BASES[number as usize][0];
-                list.push(Request::new(DISP_TARGET, &[number, base, target, address, 1, 0]));
+                list.push(from_address([number, base, target], address, [1, 0]));
             }
         }
     }
@@ -227,9 +248,7 @@ fn page_orders(list: &mut Vec<Request>) {
     for base in bases {
         for target in [0x3004, 0x3FFF, 0x1_0000_0FFF, 0x1_0000_1001] {
             for [len, position] in [[1, 0], [0, 0], [1, 1], [3, 2], [8, u64::MAX]] {
-                let room = [0x1000, len, position];
-                let args = [&[4, base, target][..], &room].concat();
-                list.push(Request::new(DISP_TARGET, &args));
+                list.push(from_address([4, base, target], 0x1000, [len, position]));
             }
             list.push(Request::new(DISP_IMM, &[4, base, target, 1, 0]));
         }
@@ -242,7 +261,44 @@ fn any_page(random: &mut Random) -> Request {
     let distance = in_range(&FORMATS[4], random) as u64;
     let target = page(4, address).wrapping_add(distance) + random.below(4096);
     let base = BASES[4][0] | random.below(32);
-    Request::new(DISP_TARGET, &[4, base, target, address, 1, 0])
+    from_address([4, base, target], address, [1, 0])
+}
+
+/// Right ones, each refusal alone, and several at once, from every base address. Of all formats
+/// what is first goes everywhere, and so does an ADRP to the end of a page.
+fn places(list: &mut Vec<Request>) {
+    let mut given = vec![];
+    for (number, format) in (0..).zip(&FORMATS) {
+        let [own, other] = [number, (number + 1) % 6].map(|number| BASES[number as usize][0]);
+        let [step, far] = [format.step, format.greatest + format.step].map(|bytes| bytes as u64);
+        given.extend([[number, own, step], [number, other, step], [number, own | FIELD_BIT, step]]);
+        given.extend([[number, own, 2], [number, own, far], [number, own, far + 1]]);
+        given.extend([own, other].map(|base| [number, base | FIELD_BIT, far + 1]));
+    }
+    given.extend([[6, BASES[0][0], 4], [6, BASES[3][0] | FIELD_BIT, u64::MAX >> 1]]);
+    list.extend(placed(DISP_IMM, &given));
+    list.extend(placed(DISP_TARGET, &given));
+    list.extend(placed(DISP_TARGET, &[[4, BASES[4][1], 0x1FFF]]));
+}
+
+/// Targets that three words share: around the ends of the range and around 0, as seen from the
+/// middle word. Between the words the address goes on from 0, to another page, past the Rust's
+/// offsets, or past 2^64 before the middle word or behind it.
+fn three_words(list: &mut Vec<Request>, number: u64, format: &Format) {
+    let word = BASES[number as usize][0];
+    let apart = format.step.max(4);
+    for base in [0, 0xFFC, U32 - 3, u64::MAX - 7, u64::MAX - 3] {
+        let middle = page(number as u32, Place { base, position: 1 }.address());
+        for limit in [format.least, 0, format.greatest] {
+            for distance in [limit - apart, limit, limit + apart] {
+                let target = middle.wrapping_add(distance as u64);
+                list.extend([0, 1, 2].map(|position| {
+                    let at = Place { base, position };
+                    Request::writing(DISP_TARGET, &[number, word, target], 3, at)
+                }));
+            }
+        }
+    }
 }
 
 fn any(entry: u64, random: &mut Random) -> Request {
@@ -268,7 +324,7 @@ fn any(entry: u64, random: &mut Random) -> Request {
     let [len, position] = room(random);
     match entry {
         DISP_IMM => Request::new(entry, &[number, base, distance as u64, len, position]),
-        DISP_TARGET => Request::new(entry, &[number, base, target, address, len, position]),
+        DISP_TARGET => from_address([number, base, target], address, [len, position]),
         HAS_FORM => Request::new(entry, &[number, base]),
         _ => Request::new(entry, &[random.value(), number]),
     }

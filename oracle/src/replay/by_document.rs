@@ -39,11 +39,11 @@ fn module_1(r: &Request) -> Option<Answer> {
         LSB_MASK => Answer::wide(words::lsb_mask(r.low(0))),
         PUT => {
             let mut run = r.run(0);
-            Answer::wrote(words::put(&mut run, r.args[1], &given()), run)
+            Answer::wrote(words::put(&mut run, r.place(), Ok(given())), run)
         }
         PUT_BYTES => {
             let mut run = r.byte_run(0);
-            let position = words::put_bytes(&mut run, r.args[1], &given());
+            let position = words::put_bytes(&mut run, r.place(), Ok(given()));
             Answer::wrote(position, packed(&run))
         }
         _ => return None,
@@ -74,7 +74,7 @@ fn modules_3_and_4(r: &Request) -> Option<Answer> {
             let (operation, value, width) = (r.low(0), r.args[1], r.low(2));
             let registers = (r.low(3), r.low(4));
             let position =
-                logical::put_logical_word(&mut run, r.args[6], operation, value, width, registers);
+                logical::put_logical_word(&mut run, r.place(), operation, value, width, registers);
             Answer::wrote(position, run)
         }
         DECODE_LOGICAL => wide(logical::decode_logical_imm(fields, r.low(3))),
@@ -87,14 +87,14 @@ fn modules_5_and_6(r: &Request) -> Option<Answer> {
     Some(match r.entry {
         MOVE => {
             let mut run = r.run(2);
-            let position = moves::encode_mov_sequence64(&mut run, r.args[3], r.args[0], r.low(1));
+            let position = moves::encode_mov_sequence64(&mut run, r.place(), r.args[0], r.low(1));
             Answer::wrote(position, run)
         }
         COUNT_ZERO_HALF_WORDS => numbers(Ok([moves::count_zero_half_words_64(r.args[0])])),
         PATCHABLE_MOVE => {
             let mut run = r.run(3);
             let (value, size, rd) = (r.args[0], r.low(1), r.low(2));
-            let position = moves::encode_patchable_mov_imm(&mut run, r.args[4], value, size, rd);
+            let position = moves::encode_patchable_mov_imm(&mut run, r.place(), value, size, rd);
             Answer::wrote(position, run)
         }
         _ => return None,
@@ -108,15 +108,15 @@ fn module_7(r: &Request) -> Option<Answer> {
             let mut run = r.run(3);
             let distance = r.args[2] as i64;
             let position =
-                displacements::emit_disp_imm(&mut run, r.args[4], format, base, distance);
+                displacements::emit_disp_imm(&mut run, r.place(), format, base, distance);
             Answer::wrote(position, run)
         }
         DISP_TARGET => {
-            let mut run = r.run(4);
-            let distance = displacements::distance(format, r.args[2], r.args[3]);
+            let mut run = r.run(3);
+            let target = r.args[2];
             let position =
-                displacements::emit_disp_imm(&mut run, r.args[5], format, base, distance);
-            Answer::wrote(position, run).carrying(displacements::low_12(format, r.args[2]))
+                displacements::emit_disp_target(&mut run, r.place(), format, base, target);
+            Answer::wrote(position, run).carrying(displacements::low_12(format, target))
         }
         READ_DISP => wide(displacements::read_disp(r.low(0), r.low(1)).map(|d| d as u64)),
         HAS_FORM => numbers(displacements::has_form(format, base).map(|yes| [yes.into()])),

@@ -58,7 +58,7 @@ fn unless_panics<T>(given: Result<T, Panics>, answer: impl FnOnce(T) -> Heard) -
 }
 
 /// The run of argument i with the original's words in it, from the position in the next argument
-/// on: it has no lent run of its own.
+/// on: it has no lent run of its own, and no base address.
 fn placed(r: &Request, i: usize, words: &[u32]) -> Heard {
     let mut run = r.run(i);
     let end = r.args[i + 1].saturating_add(words.len() as u64);
@@ -142,21 +142,20 @@ fn modules_5_and_6(r: &Request) -> Heard {
 }
 
 fn module_7(r: &Request) -> Heard {
-    let emitted = |i, word: Option<u32>| match word {
-        Some(word) => placed(r, i, &[word]),
-        None => refused(r, i, 4),
+    let emitted = |word: Option<u32>| match word {
+        Some(word) => placed(r, 3, &[word]),
+        None => refused(r, 3, 4),
     };
     let (format, base) = (r.low(0), r.low(1));
     match r.entry {
-        DISP_IMM => rust::emit_disp_imm(format, base, r.args[2] as i64)
-            .map_or(Lacks, |word| emitted(3, word)),
+        DISP_IMM => rust::emit_disp_imm(format, base, r.args[2] as i64).map_or(Lacks, emitted),
         DISP_TARGET => {
-            // A buffer's offset has 32 bits.
-            let Ok(offset) = u32::try_from(r.args[3]) else {
+            // The buffer's offset is the word's address, and has 32 bits.
+            let Ok(offset) = u32::try_from(r.place().address()) else {
                 return Lacks;
             };
             let word = rust::emit_rel(format, base, r.args[2], offset);
-            let heard = word.map_or(Lacks, |word| unless_panics(word, |word| emitted(4, word)));
+            let heard = word.map_or(Lacks, |word| unless_panics(word, emitted));
             heard.carrying(displacements::low_12(format, r.args[2]))
         }
         _ => Lacks,

@@ -57,6 +57,11 @@ pub enum Class {
     /// An ADRP to a target inside a page: the Rust refuses it; here the word of its page, or 5 or 8.
     PageTarget,
 
+    // What document 02's request g refuses.
+    /// A base address that is no multiple of 4: the Rust has none, and does what it does at any
+    /// other, which is to write, to refuse by another number or to panic; here 15.
+    Unaligned,
+
     /// The Rust has no such entry, or cannot be asked this (no room in a lent run, for one).
     Added,
 }
@@ -76,6 +81,7 @@ pub fn class(r: &Request, document: &Answer, rust: &Heard) -> Option<Class> {
         (SIZE_OP, Heard::Lacks) if r.low(4) == 7 => Some(Element7),
         (PICK_FP, Heard::Lacks) if r.low(1) == 7 => Some(Element7),
         (_, Heard::Lacks) => Some(Added),
+        _ if !r.place().aligned() => known(no(15), Unaligned),
         (LSB_MASK, _) => known(*document == Answer::wide(u64::MAX), MaskAbove64),
         (SHIFT_MAP, _) => known(r.low(0) > 15 && no(7), ShiftMapAbove15),
         (ENCODE_LOGICAL, _) => known(wrong(r.low(1)) && no(1), LogicalWidth),
@@ -133,7 +139,7 @@ fn target_class(r: &Request, document: &Answer) -> Option<Class> {
             (r.low(0) == 4 && taken).then_some(PageTarget)
         }
         _ => {
-            let own = displacements::distance(r.low(0), r.args[2], r.args[3]);
+            let own = displacements::distance(r.low(0), r.args[2], r.place().address());
             let answered = document.is_ok() || document.is_no(5);
             (from_four != own && answered).then_some(TargetFromFour)
         }

@@ -7,7 +7,8 @@ use super::by_rust::Heard::{self, Lacks, Overflows, Panics, Says, Spoils};
 use super::request::{Request, entry::*};
 use crate::document::displacements::{self, FORMATS};
 use crate::document::logical::{self, Fields};
-use crate::document::{No, moves, simd, words};
+use crate::document::words::{self, Place};
+use crate::document::{No, moves, simd};
 use crate::rust;
 
 /// Whether the original is built so that an overflow panics; else it wraps around.
@@ -19,9 +20,9 @@ pub fn expected(r: &Request) -> Heard {
         SHIFT_MAP if r.low(0) > 15 => Panics,
         ENCODE_LOGICAL => fields(r),
         LOGICAL_WORD => logical_word(r),
-        MOVE => written(r, 2, &move_words(r.args[0], r.low(1))),
+        MOVE => written(r, 2, move_words(r.args[0], r.low(1))),
         PATCHABLE_MOVE => patchable_move(r),
-        DISP_IMM => displaced(r, 3, r.args[2] as i64),
+        DISP_IMM => displaced(r, r.args[2] as i64),
         DISP_TARGET => displaced_to(r),
         ENCODE_FLOAT => float(r.args[0], r.low(1)),
         ENCODE_BYTE_MASK => byte_mask(r.args[0]),
@@ -46,11 +47,11 @@ pub fn expected(r: &Request) -> Heard {
     }
 }
 
-/// Words in the run of argument i, from the position in the next argument on. Without room the Rust
-/// cannot be asked.
-fn written(r: &Request, i: usize, given: &[u32]) -> Heard {
+/// Words in the run of argument i, whatever its base address. Without room the Rust cannot be
+/// asked.
+fn written(r: &Request, i: usize, given: Vec<u32>) -> Heard {
     let mut run = r.run(i);
-    match words::put(&mut run, r.args[i + 1], given) {
+    match words::put(&mut run, Place { base: 0, ..r.place() }, Ok(given)) {
         Ok(position) => Says(Answer::wrote(Ok(position), run)),
         Err(_) => Lacks,
     }
@@ -133,7 +134,7 @@ fn logical_word(r: &Request) -> Heard {
     let registers = ((r.low(3) % 32) << 5) | (r.low(4) % 32);
     match fields_at(value, width) {
         Some(Some([n, s, turn])) => {
-            written(r, 5, &[base | n << 22 | turn << 16 | s << 10 | registers])
+            written(r, 5, vec![base | n << 22 | turn << 16 | s << 10 | registers])
         }
         Some(None) => refused(r, 5, 3),
         None => Panics,
@@ -154,22 +155,19 @@ fn move_words(value: u64, rd: u32) -> Vec<u32> {
 /// Document 01's words, with the register masked.
 fn patchable_move(r: &Request) -> Heard {
     match moves::patchable_words(r.args[0], r.low(1), 0) {
-        Ok(given) => {
-            let given: Vec<u32> = given.iter().map(|word| word | (r.low(2) % 32)).collect();
-            written(r, 3, &given)
-        }
+        Ok(given) => written(r, 3, given.iter().map(|word| word | (r.low(2) % 32)).collect()),
         Err(_) => Lacks,
     }
 }
 
 /// The distance in steps, cut to the field and or-ed into the base; LDR 19 has its field split as
 /// ADR's is. Off the step it is refused, whatever the base.
-fn displaced(r: &Request, i: usize, distance: i64) -> Heard {
+fn displaced(r: &Request, distance: i64) -> Heard {
     let Some(format) = FORMATS.get(r.low(0) as usize) else {
         return Lacks;
     };
     if distance % format.step != 0 {
-        return refused(r, i, 4);
+        return refused(r, 3, 4);
     }
     let field = if r.low(0) == 5 { &[(2, 29), (17, 5)] } else { format.field };
     let steps = (format.greatest - format.least) / format.step + 1;
@@ -179,12 +177,12 @@ fn displaced(r: &Request, i: usize, distance: i64) -> Heard {
         word |= (above % (1 << bits)) << at;
         above >>= bits;
     }
-    written(r, i, &[word])
+    written(r, 3, vec![word])
 }
 
 /// Where the Rust counts a target's distance from: four bytes on, for ADRP from that page.
 fn origin(r: &Request) -> u64 {
-    displacements::page(r.low(0), r.args[3].wrapping_add(4))
+    displacements::page(r.low(0), r.place().address().wrapping_add(4))
 }
 
 /// A target's distance as the Rust counts it: the target keeps its low bits.
@@ -197,12 +195,12 @@ pub fn overflows(r: &Request) -> bool {
     (r.args[2] as i64).checked_sub(origin(r) as i64).is_none()
 }
 
-/// A buffer's offset has 32 bits.
+/// A buffer's offset, the word's address, has 32 bits.
 fn displaced_to(r: &Request) -> Heard {
-    match r.args[3] {
+    match r.place().address() {
         0x1_0000_0000.. => Lacks,
         _ if r.low(0) < 6 && CHECKED && overflows(r) => Panics,
-        _ => displaced(r, 4, from_four(r)).carrying(displacements::low_12(r.low(0), r.args[2])),
+        _ => displaced(r, from_four(r)).carrying(displacements::low_12(r.low(0), r.args[2])),
     }
 }
 

@@ -1,13 +1,14 @@
 //! The replay's requests and answers, and the comparing of the Rust with document 01.
 //!
-//! A request is eight little-endian numbers of 64 bits: the entry's, then seven arguments, the unused
-//! ones 0. A number that an entry takes as one of 32 bits counts modulo 2^32. A run's length counts
-//! modulo 9 in words and modulo 33 in bytes; word i of it is A5000000 + i before the call, byte i is
-//! 80 + i (hex).
+//! A request is nine little-endian numbers of 64 bits: the entry's, then eight arguments, the
+//! unused ones 0; an entry that writes has the base address of its run behind all others. A number
+//! that an entry takes as one of 32 bits counts modulo 2^32. A run's length counts modulo 9 in
+//! words and modulo 33 in bytes; word i of it is A5000000 + i before the call, byte i is 80 + i
+//! (hex).
 //!
 //! An answer is one line, `ok` with decimal numbers or `no` with the refusal's number; a value of 64
 //! bits is two hexadecimal words, the high one first. An entry that writes answers its new position,
-//! then the whole run in lines of up to four hexadecimal words.
+//! without the base address, then the whole run in lines of up to four hexadecimal words.
 
 pub mod answer;
 pub mod by_document;

@@ -2,6 +2,9 @@
 
 use std::fmt;
 
+use crate::document::words::Place;
+use entry::*;
+
 /// The entries by number. A number divided by 16 is the entry's module in document 01.
 pub mod entry {
     pub const BIT_TEST: u64 = 16;
@@ -41,7 +44,7 @@ pub mod entry {
 #[derive(Clone, Copy, Debug, PartialEq, Eq, Hash)]
 pub struct Request {
     pub entry: u64,
-    pub args: [u64; 7],
+    pub args: [u64; 8],
 }
 
 impl fmt::Display for Request {
@@ -51,14 +54,58 @@ impl fmt::Display for Request {
 }
 
 impl Request {
+    /// How many bytes spell one.
+    pub const BYTES: usize = 72;
+
     /// A request with the arguments given and the unused ones 0.
     pub fn new(entry: u64, given: &[u64]) -> Self {
-        let mut args = [0; 7];
+        let mut args = [0; 8];
         args[..given.len()].copy_from_slice(given);
         Self { entry, args }
     }
 
-    /// Eight little-endian numbers of 64 bits.
+    /// A request of an entry that writes: what it is given, the length of the run, the position and
+    /// the base address; the two writers have what they are given between the position and the
+    /// base.
+    pub fn writing(entry: u64, given: &[u64], len: u64, at: Place) -> Self {
+        let run = [len, at.position];
+        let (first, second) = match entry {
+            PUT | PUT_BYTES => (&run[..], given),
+            _ => (given, &run[..]),
+        };
+        Self::new(entry, &[first, second, &[at.base]].concat())
+    }
+
+    /// The arguments that give an entry that writes its position and base address.
+    fn place_at(&self) -> Option<[usize; 2]> {
+        match self.entry {
+            PUT | PUT_BYTES => Some([1, 7]),
+            LOGICAL_WORD => Some([6, 7]),
+            MOVE => Some([3, 4]),
+            PATCHABLE_MOVE | DISP_IMM | DISP_TARGET => Some([4, 5]),
+            _ => None,
+        }
+    }
+
+    /// Where an entry that writes is to write; both numbers are 0 for every other.
+    pub fn place(&self) -> Place {
+        let [position, base] = self.place_at().map_or([0; 2], |at| at.map(|i| self.args[i]));
+        Place { base, position }
+    }
+
+    /// The same with another base address, where the entry writes; a target moves along.
+    pub fn moved(mut self, base: u64) -> Self {
+        let by = base.wrapping_sub(self.place().base);
+        if let Some([_, i]) = self.place_at() {
+            self.args[i] = base;
+        }
+        if self.entry == DISP_TARGET {
+            self.args[2] = self.args[2].wrapping_add(by);
+        }
+        self
+    }
+
+    /// Nine little-endian numbers of 64 bits.
     pub fn bytes(&self) -> Vec<u8> {
         let numbers = std::iter::once(&self.entry).chain(&self.args);
         numbers.flat_map(|number| number.to_le_bytes()).collect()

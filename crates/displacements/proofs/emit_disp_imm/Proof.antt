@@ -15,7 +15,7 @@ returns c =
     let a = k .before .before .before .args in
     let d = (a .distance .0) in
     let e = ap listed (k .disp-word .ensures) ∙ listed-packed (dispSaid (a .format) (a .base .0) d) (short (a .format) (a .base .0) d) in
-    c .before .before .put .ensures ∙ ap (putOf (a .words .now) (a .at .0)) e
+    c .before .before .put .ensures ∙ ap (putOf (a .words .now) (a .at)) e
 
 pub emit-disp-imm-spec : {M : Type 1} → statement M
 emit-disp-imm-spec = tie.close (tie.spec (search needs) (search needs) (search needs) returns)

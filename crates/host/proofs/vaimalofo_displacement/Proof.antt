@@ -5,6 +5,7 @@ use Rattle.words.specs.Listed.{listed}
 use Rattle.words.proofs.Answers.{listed-packed}
 use Rattle.displacements.specs.Answer.{dispSaid}
 use Rattle.displacements.proofs.Answers.{short}
+use Rattle.words.specs.Place.{placeAt}
 use Rattle.host.proofs.Laws.{asked}
 use borrow.Author.Needs.{needs}
 use Rattle.host.proofs.vaimalofo_displacement.Statement.{statement}
@@ -15,7 +16,7 @@ returns c =
     let m = c .before .before .before in
     let start = m .before .before .before in
     let a = start .args in
-    asked (a .bytes .now) (a .position) (c .before .before .put .ensures)
+    asked (a .bytes .now) (placeAt (a .base-address) (a .position)) (c .before .before .put .ensures)
     (ap listed (rw (toZ-ofZ (start .fits .distance)) at (m .disp-word .ensures)) ∙ listed-packed (dispSaid (a .format) (a .base) (a .distance)) (short (a .format) (a .base) (a .distance)))
 
 pub vaimalofo-displacement-spec : {M : Type 1} → statement M

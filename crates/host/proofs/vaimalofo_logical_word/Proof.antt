@@ -1,5 +1,6 @@
 -- `host::vaimalofo_logical_word` meets its contract. Assumes nothing.
 use Rattle.logical_words.proofs.Word.{word-listed}
+use Rattle.words.specs.Place.{placeAt}
 use Rattle.host.proofs.Laws.{asked}
 use borrow.Author.Needs.{needs}
 use Rattle.host.proofs.vaimalofo_logical_word.Statement.{statement}
@@ -12,7 +13,7 @@ returns c =
     let w = m .logical-word .ensures in (
       w .0,
       w .1,
-      asked (a .bytes .now) (a .position) (c .before .before .put .ensures) (word-listed (a .operation) (a .width) (a .rn) (a .rd) (w .0) (w .2)),
+      asked (a .bytes .now) (placeAt (a .base-address) (a .position)) (c .before .before .put .ensures) (word-listed (a .operation) (a .width) (a .rn) (a .rd) (w .0) (w .2)),
     )
 
 pub vaimalofo-logical-word-spec : {M : Type 1} → statement M

@@ -5,13 +5,13 @@ use Rattle.host.proofs.written.Statement.{statement}
 use Rattle.host.proofs.written.Tie as tie
 
 sub-result : tie.Need-sub-result
-sub-result c = let h = rw (c .before .before .w .given .1) at (c .before .before .before .before .pre) in omega arith
+sub-result c = let h = rw (c .before .before .before .w .given .1) at (c .before .before .before .before .before .pre) in omega arith
 
 mul-result : tie.Need-mul-result
-mul-result c = let h = rw (c .before .before .w .given .1) at (c .before .before .before .before .pre) in omega arith
+mul-result c = let h = rw (c .before .before .before .w .given .1) at (c .before .before .before .before .before .pre) in omega arith
 
 returns : tie.Need-returns
-returns c = let h = rw (c .before .before .w .given .1) at (c .before .before .before .before .pre) in rw (c .before .before .w .given .1) (omega arith)
+returns c = let h = rw (c .before .before .before .w .given .1) at (c .before .before .before .before .before .pre) in rw (c .before .before .before .w .given .1) (omega arith)
 
 returns-2 : tie.Need-returns-2
 returns-2 c = rw (c .before .before .w2 .given .1) (c .refused .ensures)

@@ -5,22 +5,22 @@ use Rattle.host.proofs.written_page.Statement.{statement}
 use Rattle.host.proofs.written_page.Tie as tie
 
 sub-result : tie.Need-sub-result
-sub-result c = let h = rw (c .before .before .w .given .1) at (c .before .before .before .before .pre .0) in omega arith
+sub-result c = let h = rw (c .before .before .before .w .given .1) at (c .before .before .before .before .before .pre .0) in omega arith
 
 mul-result : tie.Need-mul-result
-mul-result c = let h = rw (c .before .before .w .given .1) at (c .before .before .before .before .pre .0) in omega arith
+mul-result c = let h = rw (c .before .before .before .w .given .1) at (c .before .before .before .before .before .pre .0) in omega arith
 
 add-result : tie.Need-add-result
 add-result c =
-    let p = c .before .before .before .before .before .pre in
-    let h = rw (c .before .before .before .w .given .1) at (p .0) in
+    let p = c .before .before .before .before .before .before .pre in
+    let h = rw (c .before .before .before .before .w .given .1) at (p .0) in
     omega (arith, p .1)
 
 returns : tie.Need-returns
 returns c =
-    let p = c .before .before .before .before .before .pre in
-    let h = rw (c .before .before .before .w .given .1) at (p .0) in
-    rw (c .before .before .before .w .given .1) (omega (arith, p .1))
+    let p = c .before .before .before .before .before .before .pre in
+    let h = rw (c .before .before .before .before .w .given .1) at (p .0) in
+    rw (c .before .before .before .before .w .given .1) (omega (arith, p .1))
 
 returns-2 : tie.Need-returns-2
 returns-2 c = rw (c .before .before .w2 .given .1) (c .refused .ensures)

@@ -15,7 +15,7 @@ returns c =
     let a = p .before .before .before .before .args in
     let short = patch-short (a .value) (a .size) (a .rd) in
     p .put .ensures
-    ∙ ap (putOf (a .words .now) (a .at .0)) (ap listed (p .before .patchable-mov-words .ensures) ∙ listed-packed (patchSaid (a .value) (a .size) (a .rd)) short)
+    ∙ ap (putOf (a .words .now) (a .at)) (ap listed (p .before .patchable-mov-words .ensures) ∙ listed-packed (patchSaid (a .value) (a .size) (a .rd)) short)
 
 pub encode-patchable-mov-imm-spec : {M : Type 1} → statement M
 encode-patchable-mov-imm-spec = tie.close (tie.spec (search needs) (search needs) (search needs) returns)

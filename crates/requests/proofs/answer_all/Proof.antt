@@ -7,7 +7,7 @@ use Rattle.requests.proofs.answer_all.Tie as tie
 
 -- the array that is read into keeps its length
 abbrev Inv-loop : tie.InvT-loop
-Inv-loop bytes₀ out₀ turns₀ bytes out turns = 64 ≡ length bytes
+Inv-loop bytes₀ out₀ turns₀ bytes out turns = 72 ≡ length bytes
 
 abbrev μ-loop : tie.MeasureT-loop
 μ-loop bytes₀ out₀ turns₀ bytes out turns = turns

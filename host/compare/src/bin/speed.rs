@@ -10,10 +10,9 @@ use std::thread;
 use std::time::Instant;
 
 use compare::library::Library;
-use compare::{put, values};
+use compare::{at_zero, put, values};
 use oracle::direct;
 use oracle::lists::random::Random;
-use vaimalofo::WordPos;
 
 /// How many values, and how many rounds of each.
 const VALUES: usize = 2_000_000;
@@ -81,11 +80,11 @@ fn sides(paths: impl Iterator<Item = String>) -> Vec<Side> {
 }
 
 fn entry_moves(values: &[u64], run: &mut [u8]) -> usize {
-    let mut at = WordPos(0);
+    let mut at = at_zero(0);
     for (i, value) in values.iter().enumerate() {
         at = vaimalofo::mov(run, at, *value, register(i)).expect("there is room");
     }
-    at.0
+    at.position.0
 }
 
 /// The words of each value put one behind the other, low byte first.
