@@ -42,7 +42,7 @@ pub beside : (l : Option ℕ) (s : Said Place) (y : Said (Place × Option ℕ)) 
 beside l s y ws z p q = ap (λ (k : Said (Place × Option ℕ)). (k, ws)) p ∙ ap (carried l) q
 
 -- a refusal has nothing beside it, whatever it would carry
-pub carried-no : {A : Type 0} (l k : Option ℕ) (z : Said A × List ℕ) (n : ℕ) → z .0 ≡ no n → carried l z ≡ carried k z
+carried-no : {A : Type 0} (l k : Option ℕ) (z : Said A × List ℕ) (n : ℕ) → z .0 ≡ no n → carried l z ≡ carried k z
 carried-no {A} l k z n e = ap (λ (x : Said A). carried l (x, z .1)) e ∙ sym (ap (λ (x : Said A). carried k (x, z .1)) e)
 
 -- for either writer, of which all that is known is that it refuses what is refused

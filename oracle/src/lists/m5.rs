@@ -1,6 +1,6 @@
 //! Module 5. Values of every class of halfwords (0, FFFF, other, in all four places), both sides of
 //! each power of two, a sample of those that one short MOVN spells, and 5,000 random ones; several
-//! registers; runs with every room at every position; sequences of 0 to 4 words and wrong registers
+//! registers; runs with every room at every position; sequences of 1 to 4 words and wrong registers
 //! from every base address. Counts of zero halfwords.
 
 use super::random::Random;
