@@ -38,9 +38,9 @@ pub fn move_words(value: u64, rd: u32) -> ([u32; 4], usize) {
     (words, count)
 }
 
-/// N, S and R at width 32 or 64: the shortest element that repeats, then the run in it.
+/// N, S, R and the element's length at width 32 or 64: the shortest element that repeats, then the run in it.
 #[inline]
-pub fn logical_fields(value: u64, width: u32) -> Option<[u32; 3]> {
+pub fn logical_fields(value: u64, width: u32) -> Option<[u32; 4]> {
     let value = value & (u64::MAX >> (64 - width));
     let mut size = width;
     while size > 2 {
@@ -66,7 +66,8 @@ pub fn logical_fields(value: u64, width: u32) -> Option<[u32; 3]> {
         return None;
     }
     let prefix = if size == 64 { 0 } else { !(2 * size - 1) & 0x3F };
-    Some([u32::from(size == 64), prefix | (ones - 1), (2 * size - skipped - zeros) % size])
+    let r = (2 * size - skipped - zeros) % size;
+    Some([u32::from(size == 64), prefix | (ones - 1), r, size])
 }
 
 /// An element turned to the right.

@@ -7,7 +7,7 @@ use batch_plain::{logical_fields, move_words};
 /// What a record's line says.
 enum Line {
     Words([u32; 4], usize),
-    Fields(u32, u32, u32),
+    Fields([u32; 4]),
     Float(u8),
     No(u8),
 }
@@ -22,7 +22,7 @@ fn mov(value: u64, register: u8) -> Line {
 
 fn fields(value: u64, width: u32) -> Line {
     match logical_fields(value, width) {
-        Some([n, s, r]) => Line::Fields(n, s, r),
+        Some(fields) => Line::Fields(fields),
         None => Line::No(3),
     }
 }
@@ -54,7 +54,7 @@ fn print(out: &mut impl Write, line: Line) -> io::Result<()> {
             }
             out.write_all(b"\n")
         }
-        Line::Fields(n, s, r) => writeln!(out, "ok {n} {s} {r}"),
+        Line::Fields([n, s, r, length]) => writeln!(out, "ok {n} {s} {r} {length}"),
         Line::Float(b) => writeln!(out, "ok {b}"),
         Line::No(n) => writeln!(out, "no {n}"),
     }

@@ -74,6 +74,26 @@ static inline uint32_t vaimalofo_low12(uint64_t answer) {
     return (uint32_t)(answer >> 16 & 0xFFF);
 }
 
+/* Of vaimalofo_logical_fields, without a refusal: N, 1 only for an element of 64 bits. */
+static inline uint32_t vaimalofo_n(uint64_t answer) {
+    return (uint32_t)(answer >> 24 & 0xFF);
+}
+
+/* Of vaimalofo_logical_fields, without a refusal: S, the length of the run less 1, below a prefix that tells the element's length. */
+static inline uint32_t vaimalofo_s(uint64_t answer) {
+    return (uint32_t)(answer >> 16 & 0xFF);
+}
+
+/* Of vaimalofo_logical_fields, without a refusal: R, how far the run is turned to the right, below the element's length. */
+static inline uint32_t vaimalofo_r(uint64_t answer) {
+    return (uint32_t)(answer >> 8 & 0xFF);
+}
+
+/* Of vaimalofo_logical_fields, without a refusal: the element's length in bits, 2, 4, 8, 16, 32 or 64. The value repeats every so many bits. */
+static inline uint32_t vaimalofo_element_length(uint64_t answer) {
+    return (uint32_t)(answer >> 32 & 0xFF);
+}
+
 /* A move of a value to a register, 1 to 4 words. Order 15, 2, 8. Value: the number of words. */
 uint64_t vaimalofo_move(uint8_t *bytes, size_t length, uint64_t base_address, size_t position, uint64_t value,
                         uint32_t reg);
@@ -82,7 +102,11 @@ uint64_t vaimalofo_move(uint8_t *bytes, size_t length, uint64_t base_address, si
 uint64_t vaimalofo_patchable_move(uint8_t *bytes, size_t length, uint64_t base_address, size_t position, uint64_t value,
                                   uint32_t size, uint32_t reg);
 
-/* The fields of a logical immediate at width 32 or 64. Order 1, 3. Value: N * 65536 + S * 256 + R. */
+/* The fields of a logical immediate at width 32 or 64, and the length of its element. Order 1, 3. Value: length * 16777216 + N * 65536 +
+ * S * 256 + R, so that the answer has R in bits 8 to 15, S in 16 to 23, N in 24 to 31 and the length in 32 to 39, and every other bit is 0:
+ * vaimalofo_r, vaimalofo_s, vaimalofo_n and vaimalofo_element_length take them apart.
+ * WARNING: before it had the length, nothing stood above N. R, S and N are where they were, but a host that takes N as value >> 16 now gets
+ * the length with it, and must mask it: value >> 16 & 0xFF. */
 uint64_t vaimalofo_logical_fields(uint64_t value, uint32_t width);
 
 /* AND, ORR, EOR or ANDS with an immediate. Order 15, 7, 1, 2, 3, 8. Value: the number of words, 1. */

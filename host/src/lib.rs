@@ -83,7 +83,7 @@ impl Place {
     }
 }
 
-/// The fields N, S and R of a logical immediate.
+/// The fields N, S and R of a logical immediate, and the length of its element.
 #[derive(Clone, Copy, Debug, PartialEq, Eq, Hash)]
 pub struct Fields {
     /// 1 only for an element of 64 bits.
@@ -92,6 +92,8 @@ pub struct Fields {
     pub s: u32,
     /// How far the run is turned to the right; below the element's length.
     pub r: u32,
+    /// The element's length in bits: 2, 4, 8, 16, 32 or 64. The value repeats every so many bits; N and S tell how many.
+    pub length: u32,
 }
 
 /// The numbers of the displacement formats.
@@ -193,7 +195,8 @@ pub fn patchable_mov(
     after(at, ffi::patchable_mov(bytes, at, value, size, register))
 }
 
-/// The fields that spell a value as a logical immediate at width 32 or 64; width 32 ignores the higher bits.
+/// The fields that spell a value as a logical immediate at width 32 or 64, and after how many bits it repeats; width 32 ignores the
+/// higher bits.
 ///
 /// # Errors
 /// [`Refusal::Width`] for another width, [`Refusal::NoField`] where no fields decode to the value.
@@ -201,15 +204,21 @@ pub fn patchable_mov(
 /// ```
 /// use vaimalofo::{logical_fields, Fields, Refusal};
 ///
-/// assert_eq!(logical_fields(0xFF, 64), Ok(Fields { n: 1, s: 7, r: 0 }));
-/// assert_eq!(logical_fields(0x1000000FF, 32), Ok(Fields { n: 0, s: 7, r: 0 }));
+/// assert_eq!(logical_fields(0xFF, 64), Ok(Fields { n: 1, s: 7, r: 0, length: 64 }));
+/// assert_eq!(logical_fields(0x1000000FF, 32), Ok(Fields { n: 0, s: 7, r: 0, length: 32 }));
+/// let mask = logical_fields(0x8181818181818181, 64)?;
+/// assert_eq!(mask, Fields { n: 0, s: 49, r: 1, length: 8 });
+/// assert_eq!(format!("repeats every {} bits", mask.length), "repeats every 8 bits");
 /// assert_eq!(logical_fields(5, 64), Err(Refusal::NoField));
 /// assert_eq!(logical_fields(5, 16), Err(Refusal::Width));
+/// # Ok::<(), Refusal>(())
 /// ```
 #[inline]
 pub fn logical_fields(value: u64, width: u32) -> Result<Fields, Refusal> {
-    let fields = answer(ffi::logical_fields(value, width))? as u32;
-    Ok(Fields { n: fields >> 16, s: fields >> 8 & 0xFF, r: fields & 0xFF })
+    let fields = answer(ffi::logical_fields(value, width))?;
+    // A byte each, R the lowest.
+    let byte = |at: u32| u32::from((fields >> at) as u8);
+    Ok(Fields { n: byte(16), s: byte(8), r: byte(0), length: byte(24) })
 }
 
 /// A logical instruction with an immediate: which one, at which width, on which registers.

@@ -175,10 +175,47 @@ static void unaligned(uint64_t base) {
     refused("to 15, 6, 5, 8", &w, vaimalofo_displacement_to(w.run, w.length, base, 9, 0, 0x14000001, base + (UINT64_C(1) << 63)), refusal);
 }
 
-static void without_a_run(void) {
-    same("fields", vaimalofo_value(vaimalofo_logical_fields(0x8000000000000001, 64)), 1 * 65536 + 1 * 256 + 1);
+/* Each element length at both widths, with N, S and R where they stood before the length; and a refusal, which has none of them. */
+static void fields(void) {
+    static const struct {
+        uint64_t value;
+        uint32_t width, n, s, r, length;
+    } cases[] = {
+        {0x5555555555555555, 64, 0, 60, 0, 2},
+        {0x7777777777777777, 64, 0, 58, 0, 4},
+        {0x8181818181818181, 64, 0, 49, 1, 8},
+        {0x0FF00FF00FF00FF0, 64, 0, 39, 12, 16},
+        {0x00FFFF0000FFFF00, 64, 0, 15, 24, 32},
+        {0xFF, 64, 1, 7, 0, 64},
+        {0x8000000000000001, 64, 1, 1, 1, 64},
+        {0xFFFFFFFFFFFFFFFE, 64, 1, 62, 63, 64},
+        {0xAAAAAAAA, 32, 0, 60, 1, 2},
+        {0x88888888, 32, 0, 56, 1, 4},
+        {0xE0E0E0E0, 32, 0, 50, 3, 8},
+        {0x00010001, 32, 0, 32, 0, 16},
+        {0xFFF00FFF, 32, 0, 23, 12, 32},
+        {0x1000000FF, 32, 0, 7, 0, 32},
+    };
+    for (size_t i = 0; i < sizeof cases / sizeof *cases; i++) {
+        uint32_t n = cases[i].n, s = cases[i].s, r = cases[i].r, length = cases[i].length;
+        uint64_t answer = vaimalofo_logical_fields(cases[i].value, cases[i].width);
+        int64_t value = vaimalofo_value(answer);
+        same("fields, refusal", vaimalofo_refusal(answer), 0);
+        same("fields, n", vaimalofo_n(answer), n);
+        same("fields, s", vaimalofo_s(answer), s);
+        same("fields, r", vaimalofo_r(answer), r);
+        same("fields, length", vaimalofo_element_length(answer), length);
+        same("fields, value", value, length * INT64_C(16777216) + n * 65536 + s * 256 + r);
+        same("fields, low 32 bits", (uint32_t)answer, (int64_t)n << 24 | s << 16 | r << 8);
+        same("fields, old n", value >> 16 & 0xFF, n);
+        same("fields, old s", value >> 8 & 0xFF, s);
+        same("fields, old r", value & 0xFF, r);
+    }
     same("fields 3", (int64_t)vaimalofo_logical_fields(5, 64), VAIMALOFO_NO_FIELD);
     same("fields 1", (int64_t)vaimalofo_logical_fields(5, 16), VAIMALOFO_WIDTH);
+}
+
+static void without_a_run(void) {
     same("form, yes", vaimalofo_value(vaimalofo_has_form(VAIMALOFO_BRANCH_26, 0x17FFFFFF)), 1);
     same("form, no", (int64_t)vaimalofo_has_form(VAIMALOFO_ADR_21, 0x17FFFFFF), 0);
     same("form 7", (int64_t)vaimalofo_has_form(6, 0x17FFFFFF), VAIMALOFO_UNKNOWN);
@@ -199,6 +236,7 @@ int main(void) {
     }
     pages();
     addresses();
+    fields();
     without_a_run();
     puts(failures == 0 ? "the C entries answer as they should" : "the C entries do not answer as they should");
     return failures != 0;

@@ -139,13 +139,28 @@ fn patchable_moves() {
 
 #[test]
 fn fields() {
-    let fields = |n, s, r| Ok(Fields { n, s, r });
-    assert_eq!(logical_fields(0xFF, 64), fields(1, 7, 0));
-    assert_eq!(logical_fields(0x1000000FF, 32), fields(0, 7, 0));
-    assert_eq!(logical_fields(0xAAAA_AAAA_AAAA_AAAA, 64), fields(0, 60, 1));
-    assert_eq!(logical_fields(0x8000_0000_0000_0001, 64), fields(1, 1, 1));
-    assert_eq!(logical_fields(0x7FFF_FFFF_FFFF_FFFF, 64), fields(1, 62, 0));
-    assert_eq!(logical_fields(!1, 64), fields(1, 62, 63));
+    // Value, width, N, S, R and the element's length: each length at both widths.
+    let cases = [
+        (0x5555_5555_5555_5555, 64, 0, 60, 0, 2),
+        (0xAAAA_AAAA_AAAA_AAAA, 64, 0, 60, 1, 2),
+        (0x7777_7777_7777_7777, 64, 0, 58, 0, 4),
+        (0x8181_8181_8181_8181, 64, 0, 49, 1, 8),
+        (0x0FF0_0FF0_0FF0_0FF0, 64, 0, 39, 12, 16),
+        (0x00FF_FF00_00FF_FF00, 64, 0, 15, 24, 32),
+        (0xFF, 64, 1, 7, 0, 64),
+        (0x8000_0000_0000_0001, 64, 1, 1, 1, 64),
+        (0x7FFF_FFFF_FFFF_FFFF, 64, 1, 62, 0, 64),
+        (0xFFFF_FFFF_FFFF_FFFE, 64, 1, 62, 63, 64),
+        (0xAAAA_AAAA, 32, 0, 60, 1, 2),
+        (0x8888_8888, 32, 0, 56, 1, 4),
+        (0xE0E0_E0E0, 32, 0, 50, 3, 8),
+        (0x0001_0001, 32, 0, 32, 0, 16),
+        (0xFFF0_0FFF, 32, 0, 23, 12, 32),
+        (0x1_0000_00FF, 32, 0, 7, 0, 32),
+    ];
+    for (value, width, n, s, r, length) in cases {
+        assert_eq!(logical_fields(value, width), Ok(Fields { n, s, r, length }), "{value:x}");
+    }
     for (width, value) in
         [(64, 5), (64, 0), (64, u64::MAX), (32, 0), (32, 0xFFFFFFFF), (32, 0xFFFFFFFF_00000000)]
     {
@@ -154,6 +169,33 @@ fn fields() {
     for width in [0, 2, 16, 31, 33, 128, u32::MAX] {
         assert_eq!(logical_fields(1, width), Err(Refusal::Width));
     }
+}
+
+/// Every value that has fields: a run of each length at each turn in an element of each length, copied to 64 bits; up to 32 bits long,
+/// at both widths. The value repeats after its element and no sooner.
+#[test]
+fn every_value_repeats_after_its_element() {
+    let mut found = [0, 0];
+    for length in [2, 4, 8, 16, 32, 64] {
+        let (n, prefix) = (u32::from(length == 64), (128 - 2 * length) % 64);
+        for ones in 1..length {
+            let set = (0..64).filter(|bit| bit % length < ones);
+            let unturned: u64 = set.map(|bit| 1 << bit).sum();
+            for r in 0..length {
+                let value = unturned.rotate_right(r);
+                let repeats = (1..=64).find(|turn| value.rotate_right(*turn) == value);
+                assert_eq!(repeats, Some(length), "{value:x}");
+                let expected = Fields { n, s: prefix + ones - 1, r, length };
+                assert_eq!(logical_fields(value, 64), Ok(expected), "{value:x}");
+                found[0] += 1;
+                if length <= 32 {
+                    assert_eq!(logical_fields(value, 32), Ok(expected), "{value:x}");
+                    found[1] += 1;
+                }
+            }
+        }
+    }
+    assert_eq!(found, [5334, 1302]);
 }
 
 #[test]

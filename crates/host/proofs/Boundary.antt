@@ -1,6 +1,6 @@
 -- Demand 2 at the host's boundary: what stands in the bytes after a call, by the entry's own contract and taken as words, does what was asked: run
 -- by Arm, decoded by Arm, read by the reader. And a refusal is one of the refusals' numbers. Assumes nothing.
-use mathlib.Core.Path.{_≡_, refl, sym, ap, _∙_, subst}
+use mathlib.Core.Path.{_≡_, refl, sym, ap, _∙_, subst, subst⁻¹}
 use mathlib.Core.Bool.{Bool}
 use mathlib.Core.Logic.{_⊎_, inl, inr}
 use mathlib.Core.List.{List, [], _∷_}
@@ -11,6 +11,7 @@ use contract.Lifetimes.{Lfts}
 use denote.Ref.{RefT, now}
 use lib.IntN.{ℤ, pos}
 use lib.Seq.{slice}
+use Rattle.arm.specs.BitMasks.{esize}
 use Rattle.arm.specs.MoveWide.{Regs, write, run}
 use Rattle.words.specs.Said.{Said, ok, no}
 use Rattle.words.specs.Answer.{IsNumber}
@@ -35,8 +36,9 @@ use Rattle.displacements.proofs.Demands.{form-yes, read-back, arrives, address-
 use Rattle.displacements.proofs.Answers.{alone}
 use Rattle.displacements.proofs.Targets.{low-page}
 use Rattle.displacements.proofs.Pages.{Paged, paged-at}
-use Rattle.host.specs.Number.{refusalIn, valueIn, Reads, lowBits, countedTo, hostToOf, hostPutTo, lowIn, wordsFrom, wordAt, spelled, yesNo}
-use Rattle.host.proofs.Demands.{Sane, Low, low-none, target-low, Called, CalledTo, plainly, fifteen, fifteen-to, reads-to, stands-to, move-sane, patchable-sane, displacement-sane, word-sane, fields-read, form-read, distance-read}
+use Rattle.host.specs.Number.{told, refusalIn, valueIn, Reads, lowBits, countedTo, hostToOf, hostPutTo, lowIn, wordsFrom, wordAt, spelled, byteIn, fieldsIn, yesNo}
+use Rattle.host.proofs.Reading.{Bytes}
+use Rattle.host.proofs.Demands.{Sane, Low, low-none, target-low, Called, CalledTo, plainly, fifteen, fifteen-to, reads-to, stands-to, move-sane, patchable-sane, displacement-sane, word-sane, fields-read, fields-apart, form-read, distance-read}
 use Rattle.host.proofs.vaimalofo_move.Reads as move
 use Rattle.host.proofs.vaimalofo_patchable_move.Reads as patchable-move
 use Rattle.host.proofs.vaimalofo_logical_fields.Reads as logical-fields
@@ -228,18 +230,35 @@ module _ (k : Lfts 1) (bytes bytes′ : RefT (List ℕ)) (base-address position 
 -- ---- those that write nothing
 
 module _ (k : Lfts 0) (answer : ℕ) where
-  -- the fields in the answer decode to the low bits of the value
-  pub logical-fields-decode : (value width : ℕ) → logical-fields.Post k (value, (width, tt)) answer (value, (width, tt)) → refusalIn answer ≡ 0
-      → (f : LogicalImm) × (valueIn answer ≡ pos (f .n * 2 ^ 16 + f .s * 2 ^ 8 + f .r)) × Decodes width (f .n) (f .s) (f .r) (value % 2 ^ width)
-  logical-fields-decode value width p z = go (p .0) (p .1) (fields-read width value answer (p .0) (p .1) (p .2))
-    where
-      go : (a : Said LogicalImm) → Encoded width value a → Reads answer (spelled a)
-          → (f : LogicalImm) × (valueIn answer ≡ pos (f .n * 2 ^ 16 + f .s * 2 ^ 8 + f .r)) × Decodes width (f .n) (f .s) (f .r) (value % 2 ^ width)
-      go (ok f) e r = (f, r .1, e .1)
-      go (no n) e r = absurd (omega (arith, z, number-fits (r .0) .0, r .1))
+  module _ (value width : ℕ) (p : logical-fields.Post k (value, (width, tt)) answer (value, (width, tt))) where
+    -- fields that the encoder allows, each in its byte
+    given : refusalIn answer ≡ 0 → (f : LogicalImm) × Encoded width value (ok f) × Bytes answer (f .r) (f .s) (f .n) (f .length)
+    given z = go (p .0) (p .1) (p .2) (fields-read width value answer (p .0) (p .1) (p .2))
+      where
+        go : (a : Said LogicalImm) → Encoded width value a → answer ≡ told (spelled a) → Reads answer (spelled a)
+            → (f : LogicalImm) × Encoded width value (ok f) × Bytes answer (f .r) (f .s) (f .n) (f .length)
+        go (ok f) e q r = (f, e, fields-apart width value answer f e q)
+        go (no n) e q r = absurd (omega (arith, z, number-fits (r .0) .0, r .1))
 
-  pub logical-fields-refusal : (value width : ℕ) → logical-fields.Post k (value, (width, tt)) answer (value, (width, tt)) → Refusals answer
-  logical-fields-refusal value width p = known answer (spelled (p .0)) (fields-read width value answer (p .0) (p .1) (p .2))
+    -- what a host reads from the bytes is the encoder's answer
+    pub logical-fields-read : refusalIn answer ≡ 0 → Encoded width value (ok (fieldsIn answer))
+    logical-fields-read z =
+        let g = given z in
+        let b = g .2 in
+        let same : fieldsIn answer ≡ g .0 = rw (b .first, b .second, b .third, b .fourth) in
+        subst⁻¹ (λ (f : LogicalImm). Encoded width value (ok f)) same (g .1)
+
+    -- so N, S and R decode to the low bits of the value, and the length is Arm's for them
+    pub logical-fields-decode : refusalIn answer ≡ 0
+        → Decodes width (byteIn 3 answer) (byteIn 2 answer) (byteIn 1 answer) (value % 2 ^ width) × (byteIn 4 answer ≡ esize (byteIn 3 answer) (byteIn 2 answer))
+    logical-fields-decode z = let e = logical-fields-read z in (e .1, e .3)
+
+    -- the low 32 bits are the number of before: N * 65536 + S * 256 + R above the low byte
+    pub logical-fields-before : refusalIn answer ≡ 0 → answer % 2 ^ 32 ≡ (byteIn 3 answer * 2 ^ 16 + byteIn 2 answer * 2 ^ 8 + byteIn 1 answer) * 2 ^ 8
+    logical-fields-before z = let b = given z .2 in rw (b .first, b .second, b .third) (b .three)
+
+    pub logical-fields-refusal : Refusals answer
+    logical-fields-refusal = known answer (spelled (p .0)) (fields-read width value answer (p .0) (p .1) (p .2))
 
   pub has-form-refusal : (format word : ℕ) → has-form.Post k (format, (word, tt)) answer (format, (word, tt)) → Refusals answer
   has-form-refusal format word p = known answer (yesNo (formSaid format word)) (form-read format word answer p)

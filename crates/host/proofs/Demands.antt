@@ -31,6 +31,7 @@ use Rattle.patchable_moves.specs.Patchable.{patchSaid}
 use Rattle.patchable_moves.proofs.Lengths.{patch-by, patch64-length, patch32-length}
 use Rattle.logical.specs.Answer.{Encoded}
 use Rattle.logical.specs.declared.LogicalImm.{LogicalImm}
+use Rattle.logical.proofs.Laws.{length-low}
 use Rattle.logical_words.specs.Word.{baseOf, filled, wordOf}
 use Rattle.forms.specs.Form.{hasForm, formSaid}
 use Rattle.forms.proofs.Formats.{each}
@@ -40,7 +41,7 @@ use Rattle.displacements.proofs.Answers.{alone, numbered}
 use Rattle.displacements.proofs.Laws.{sound, arm-reads, offset-lt}
 use Rattle.host.specs.Number.{told, refusalIn, Reads, counted, hostPut, lowBits, countedTo, hostToOf, hostPutTo, countIn, lowIn, spelled, yesNo}
 use Rattle.host.proofs.Laws.{counted-none, hosted-none}
-use Rattle.host.proofs.Reading.{Small, told-reads, told-parts, extended-mag}
+use Rattle.host.proofs.Reading.{Small, told-reads, told-parts, Bytes, told-bytes, extended-mag}
 
 -- ---- all that write
 
@@ -185,8 +186,14 @@ pub fields-read : (w v n : ℕ) (a : Said LogicalImm) → Encoded w v a → n �
 fields-read w v n a h e = subst⁻¹ (λ (k : ℕ). Reads k (spelled a)) e (told-reads (spelled a) (small a h))
   where
     small : (a : Said LogicalImm) → Encoded w v a → Small (spelled a)
-    small (ok f) h = omega (arith, h .1 .legal .n-bits, h .1 .legal .s-bits, h .1 .legal .r-bits)
+    small (ok f) h = omega (arith, h .1 .legal .n-bits, h .1 .legal .s-bits, h .1 .legal .r-bits, length-low (h .0) (h .1 .legal) (h .3))
     small (no k) h = number-sane w v k h
+
+-- each from its byte; and the low 32 bits are what the whole answer was before the length joined it
+pub fields-apart : (w v n : ℕ) (f : LogicalImm) → Encoded w v (ok f) → n ≡ told (spelled (ok f)) → Bytes n (f .r) (f .s) (f .n) (f .length)
+fields-apart w v n f h e =
+    told-bytes n (f .r) (f .s) (f .n) (f .length) e (omega (arith, h .1 .legal .r-bits)) (omega (arith, h .1 .legal .s-bits))
+    (omega (arith, h .1 .legal .n-bits)) (omega (arith, length-low (h .0) (h .1 .legal) (h .3)))
 
 pub form-read : (n w r : ℕ) → r ≡ told (yesNo (formSaid n w)) → Reads r (yesNo (formSaid n w))
 form-read n w r e = subst⁻¹ (λ (k : ℕ). Reads k (yesNo (formSaid n w))) e (told-reads (yesNo (formSaid n w)) (go (ltb 5 n) (hasForm n w)))

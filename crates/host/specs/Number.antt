@@ -81,10 +81,17 @@ wordsFrom x at bs = wordsIn (slice (at * 4) ((at + countIn x) * 4) bs)
 abbrev pub wordAt : (x at : ℕ) → List ℕ → ℕ
 wordAt x at bs = getD (wordsFrom x at bs) 0 0
 
--- of fields: N * 65536 + S * 256 + R
+-- of fields: length * 16777216 + N * 65536 + S * 256 + R
 abbrev pub spelled : Said LogicalImm → Said ℤ
-spelled (ok f) = ok (pos (f .n * 2 ^ 16 + f .s * 2 ^ 8 + f .r))
+spelled (ok f) = ok (pos (f .length * 2 ^ 24 + f .n * 2 ^ 16 + f .s * 2 ^ 8 + f .r))
 spelled (no n) = no n
+
+-- as a host reads them from an answer x without a refusal: R in byte 1, S in byte 2, N in byte 3, the length in byte 4
+abbrev pub byteIn : ℕ → ℕ → ℕ
+byteIn k x = x / 2 ^ (8 * k) % 2 ^ 8
+
+abbrev pub fieldsIn : ℕ → LogicalImm
+fieldsIn x = record { n = byteIn 3 x; s = byteIn 2 x; r = byteIn 1 x; length = byteIn 4 x }
 
 -- P of what the encoder says of the low w bits of v (its promise allows one answer)
 abbrev pub ForFields : (w v : ℕ) → (Said LogicalImm → Type 0) → Type 0

@@ -125,15 +125,15 @@ pub extern "C" fn vaimalofo_patchable_move(
     )
 }
 
-// N * 65536 + S * 256 + R, above the low byte.
+// length * 16777216 + N * 65536 + S * 256 + R, above the low byte: each has a byte.
 fn spelled(f: LogicalImm) -> u64
-    requires { ⌜ (f .n ≤ 1) × (f .s ≤ 63) × (f .r ≤ 63) ⌝ }
+    requires { ⌜ (f .n ≤ 1) × (f .s ≤ 63) × (f .r ≤ 63) × (f .length ≤ 64) ⌝ }
     ensures { λ n. ⌜ n ≡ told (spelled (Said.ok f)) ⌝ }
 {
-    ((f.n * 65536 + f.s * 256 + f.r) * 256) as u64
+    (f.length as u64 * 16777216 + (f.n * 65536 + f.s * 256 + f.r) as u64) * 256
 }
 
-// The fields that spell the low bits of a value, at width 32 or 64: 1, 3.
+// The fields that spell the low bits of a value, at width 32 or 64, with the element length: 1, 3.
 #[no_mangle]
 pub extern "C" fn vaimalofo_logical_fields(value: u64, width: u32) -> u64
     ensures { λ r. ⌜ ForFields width value (λ a. r ≡ told (spelled a)) ⌝ }

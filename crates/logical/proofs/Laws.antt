@@ -1,13 +1,14 @@
 -- What the encoder's promise says by itself, and how a run gives the answer. Assumes nothing.
-use mathlib.Core.Path.{_≡_, refl, sym, ap, _∙_}
+use mathlib.Core.Path.{_≡_, refl, sym, ap, ap₂, _∙_}
 use mathlib.Core.Logic.{inl, inr, ⊎-elim}
-use Prim.Native.Nat.{ℕ, _-_, _*_, _%_, _^_, _<_}
+use Prim.Native.Nat.{ℕ, _-_, _*_, _%_, _^_, _≤_, _<_}
 use native.Mathlib.Nat.{mod-eq-of-lt, mod-mod}
 use native.Mathlib.Omega.{arith}
 use Rattle.arm.specs.Bits.{Ones}
-use Rattle.arm.specs.BitMasks.{IsWidth, wmask, esize}
+use Rattle.arm.specs.BitMasks.{IsWidth, Legal, wmask, esize}
 use Rattle.arm.specs.Elements.{IsRun, nOf, sOf}
-use Rattle.arm.proofs.Lengths.{ones-mod}
+use Rattle.arm.proofs.Fields.{legal-element}
+use Rattle.arm.proofs.Lengths.{ones-mod, width-le}
 use Rattle.arm.proofs.Trailing.{parity}
 use Rattle.arm.proofs.Masks as masks
 use Rattle.arm.proofs.Laws.{shape, same-fields}
@@ -18,8 +19,17 @@ use Rattle.logical.specs.Run.{Evened}
 
 -- ---- one answer
 
-fields-is : {n s r n' s' r' : ℕ} → n ≡ n' → s ≡ s' → r ≡ r' → fields n s r ≡ fields n' s' r'
-fields-is p q t = cc
+-- N, S, R and the length, whatever they are
+abbrev pub four : ℕ → ℕ → ℕ → ℕ → LogicalImm
+four n s r e = record { n = n; s = s; r = r; length = e }
+
+-- N and S fix the length
+pub one-length : {n s e n' s' e' : ℕ} → e ≡ esize n s → e' ≡ esize n' s' → n ≡ n' → s ≡ s' → e ≡ e'
+one-length a b p q = a ∙ ap₂ esize p q ∙ sym b
+
+-- so N, S and R tell all of it
+pub by-three : {n s r e n' s' r' e' : ℕ} → e ≡ esize n s → e' ≡ esize n' s' → n ≡ n' → s ≡ s' → r ≡ r' → four n s r e ≡ four n' s' r' e'
+by-three a b p q t = let u = one-length a b p q in cc
 
 -- a width at which 3 is not given bars every refusal; and two refusals give one number
 pub not-refused : {A W N : Type 0} {k : ℕ} → W → (N → ⊥) → Refused k W N → A
@@ -37,7 +47,7 @@ one-fields v v' {f} {g} a b q =
     let t = same-fields (a .0) (a .1 .legal) (b .1 .legal) (a .1 .mask ∙ q ∙ sym (b .1 .mask)) in
     let f-low : f .r % esize (f .n) (f .s) ≡ f .r = mod-eq-of-lt (omega (arith, a .2)) in
     let g-low : g .r % esize (g .n) (g .s) ≡ g .r = mod-eq-of-lt (omega (arith, b .2)) in
-    fields-is (t .0) (t .1) (sym f-low ∙ t .2 ∙ g-low)
+    by-three (a .3) (b .3) (t .0) (t .1) (sym f-low ∙ t .2 ∙ g-low)
 
 pub encoded-one : (w v : ℕ) (a b : Said LogicalImm) → Encoded w v a → Encoded w v b → a ≡ b
 encoded-one w v (ok f) (ok g) a b = ap ok (one-fields v v a b refl)
@@ -49,6 +59,10 @@ encoded-one w v (no j) (no k) a b = ap no (one-number a b)
 pub one-from : {w v : ℕ} {A : Type 0} {y z : A} {f : Said LogicalImm → A}
     → ((a : Said LogicalImm) × Encoded w v a × (y ≡ f a)) → ((a : Said LogicalImm) × Encoded w v a × (z ≡ f a)) → y ≡ z
 one-from {w} {v} {f = f} p q = p .2 ∙ ap f (encoded-one w v (p .0) (q .0) (p .1) (q .1)) ∙ sym (q .2)
+
+-- the length is 64 at most
+pub length-low : {w n s r e : ℕ} → IsWidth w → Legal w n s r → e ≡ esize n s → e ≤ 64
+length-low ww h q = rw q (omega (arith, legal-element ww h .fits, width-le ww))
 
 -- ---- from a run to the encoder's answer
 
@@ -66,12 +80,12 @@ module _ {w v : ℕ} (ww : IsWidth w) (small : v < 2 ^ w) where
   pub even-answer : {e p l : ℕ} → IsRun w v e p l → Encoded w v (ok (fields (nOf e) (sOf e l) (e - p)))
   even-answer h =
       let t = masks.run-even ww h in
-      (ww, record { legal = t .0 .legal; mask = t .1 ∙ sym (mod-eq-of-lt small) }, t .0 .turned)
+      (ww, record { legal = t .0 .legal; mask = t .1 ∙ sym (mod-eq-of-lt small) }, t .0 .turned, refl)
 
   pub odd-answer : {e p l : ℕ} → IsRun w (Ones w - v) e p l → Encoded w v (ok (fields (nOf e) (sOf e (e - l)) (e - p - l)))
   odd-answer h =
       let t = masks.run-odd ww h in
-      (ww, record { legal = t .0 .legal; mask = omega (arith, t .1) ∙ sym (mod-eq-of-lt small) }, t .0 .turned)
+      (ww, record { legal = t .0 .legal; mask = omega (arith, t .1) ∙ sym (mod-eq-of-lt small) }, t .0 .turned, refl)
 
   pub no-answer : {x : ℕ} → Evened w v x → ((e p l : ℕ) → IsRun w x e p l → ⊥) → Encoded w v (no 3)
   no-answer {x} t none = inr (
@@ -99,7 +113,7 @@ module _ (v : ℕ) (small : v < 2 ^ 32) where
   narrow-fields f a z =
       let h = masks.narrower (a .1 .legal) z in
       let same : wmask 32 (f .n) (f .s) (f .r) * 4294967297 ≡ v * 4294967297 = sym (masks.doubled-mask _ _ _ h) ∙ a .1 .mask ∙ twice in
-      (inl refl, record { legal = h; mask = omega arith ∙ sym (mod-eq-of-lt small) }, a .2)
+      (inl refl, record { legal = h; mask = omega arith ∙ sym (mod-eq-of-lt small) }, a .2, a .3)
 
   pub narrow-long : (f : LogicalImm) → Encoded 64 (v * 4294967297) (ok f) → (f .n ≡ 0 → ⊥) → Encoded 32 v (no 3)
   narrow-long f a z = inr (

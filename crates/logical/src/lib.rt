@@ -1,18 +1,19 @@
-// Module 3's encoder: the fields N, S and R that spell a logical immediate. Arm's DecodeBitMasks says what fields mean.
+// Module 3's encoder: the fields N, S and R that spell a logical immediate, with the element length. Arm's DecodeBitMasks says what fields mean.
 use words::Refusal;
 ghost use mathlib.Core.Path.{_≡_};
 ghost use Prim.Native.Nat.{_%_, _^_, _≤_, _<_};
 ghost use lib.Count.{trailingZeros};
 ghost use Rattle.arm.specs.Bits.{ROR};
-ghost use Rattle.arm.specs.Elements.{nOf, sOf};
+ghost use Rattle.arm.specs.Elements.{Element, nOf, sOf};
 ghost use Rattle.logical.specs.Answer.{fields, fieldsSaid, Encoded};
 ghost use Rattle.logical.specs.Run.{Found, Evened};
 
-// The fields N, S and R.
+// The fields N, S and R, and the length of the element that repeats, in bits.
 pub struct LogicalImm {
     pub n: u32,
     pub s: u32,
     pub r: u32,
+    pub length: u32,
 }
 
 pub enum LogicalAnswer {
@@ -75,13 +76,14 @@ fn evened(v: u64) -> u64
 // The fields of a run of l ones in an element of e bits, turned to the right by r. S is l - 1 below a prefix that tells e: ones down to a
 // zero at the bit of e.
 fn spell(e: u32, l: u32, r: u32) -> LogicalImm
-    requires { ⌜ (0 < l) × (l < e) × (e ≤ 64) ⌝ }
+    requires { ⌜ Element 64 e × (0 < l) × (l < e) × (e ≤ 64) ⌝ }
     ensures { λ f. ⌜ f ≡ fields (nOf e) (sOf e l) r ⌝ }
 {
     LogicalImm {
         n: e / 64,
         s: (127 + l - 2 * e) % 64,
         r,
+        length: e,
     }
 }
 

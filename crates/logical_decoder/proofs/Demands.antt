@@ -31,6 +31,10 @@ module _ (w : ℕ) (ww : IsWidth w) where
     normalise-twice = twice;
   }
 
+-- the length is fixed by N and S as they were asked, whatever R
+pub normal-length : (w n s r : ℕ) (f : LogicalImm) → Normal w n s r (ok f) → f .length ≡ esize n s
+normal-length w n s r f h = ap (λ (g : LogicalImm). g .length) (h .2)
+
 pub demands-32 : Demands 32
 demands-32 = demands 32 (inl refl)
 

@@ -22,6 +22,6 @@ the-normal w n s r f h =
     let d : Decoded w n s r (ok (wmask w n s r)) = (h .0, record { legal = h .1; mask = refl }) in
     rw (h .2) (the-answer w (wmask w n s r) (ok (fields n s _)) (again w n s r (wmask w n s r) d))
 
-pub example-7 : (w : ℕ) → IsWidth w → Normal w 0 60 5 (ok (fields 0 60 1))
+pub example-7 : (w : ℕ) → IsWidth w → Normal w 0 60 5 (ok (record { n = 0; s = 60; r = 1; length = 2 }))
 unfolding esize
 example-7 w ww = (ww, record { n-bits = omega arith; s-bits = omega arith; r-bits = omega arith; some-len = lit≤ tt; not-all = lit< tt; narrow = λ q. refl }, refl)

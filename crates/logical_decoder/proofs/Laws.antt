@@ -42,7 +42,7 @@ pub again : (w n s r m : ℕ) → Decoded w n s r (ok m) → Encoded w m (ok (fi
 again w n s r m d =
     let a = shape (d .0) (d .1 .legal) in
     let low : m % 2 ^ w ≡ m = rw (← d .1 .mask) (mod-eq-of-lt (lt-of-le-ones w (a .small))) in
-    (d .0, rw low (reduced (d .1)), a .turn)
+    (d .0, rw low (reduced (d .1)), a .turn, refl)
 
 -- normalising is decoding, then encoding
 pub normal-of : (w n s r m : ℕ) (a : Said LogicalImm) → Decoded w n s r (ok m) → Encoded w m a → Normal w n s r a

@@ -19,7 +19,7 @@ abbrev pub Decoded : ℕ → ℕ → ℕ → ℕ → Said ℕ → Type 0
 Decoded w n s r (ok m) = IsWidth w × Decodes w n s r m
 Decoded w n s r (no k) = Refused k (IsWidth w) (Legal w n s r → ⊥)
 
--- the normaliser: the same N and S, and R reduced by the element length; 3 where the decoder gives it
+-- the normaliser: the same N and S, R reduced by the element length, and that length; 3 where the decoder gives it
 abbrev pub Normal : ℕ → ℕ → ℕ → ℕ → Said LogicalImm → Type 0
 Normal w n s r (ok f) = IsWidth w × Legal w n s r × (f ≡ fields n s (r % esize n s))
 Normal w n s r (no k) = Refused k (IsWidth w) (Legal w n s r → ⊥)

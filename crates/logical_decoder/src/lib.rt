@@ -103,7 +103,7 @@ pub fn decode_logical_imm(n: u32, s: u32, r: u32, width: u32) -> MaskAnswer
     }
 }
 
-// The same value in normal form: decoded, then encoded.
+// The same value in normal form, with the element length: decoded, then encoded.
 pub fn normalise(n: u32, s: u32, r: u32, width: u32) -> LogicalAnswer
     ensures { λ a. ⌜ Normal width n s r (fieldsSaid a) ⌝ }
 {

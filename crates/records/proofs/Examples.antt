@@ -2,6 +2,7 @@
 use mathlib.Core.Path.{_≡_, refl, ap, _∙_}
 use mathlib.Core.List.{List, [], _∷_, _++_}
 use Prim.Native.Nat.{ℕ, zero, suc, _/_, _%_}
+use Rattle.arm.specs.BitMasks.{highestSetBit, len, esize}
 use Rattle.lines.specs.Item.{Item, words, numbers, no, badMark, cutAt}
 use Rattle.lines.specs.Text.{textsOf, decimal}
 use Rattle.halfwords.specs.Halfwords.{count}
@@ -18,15 +19,15 @@ three =
     ∷ 0x46 ∷ 0x53 ∷ 2 ∷ 0 ∷ 0x55 ∷ 0x55 ∷ 0x55 ∷ 0x55 ∷ 0x55 ∷ 0x55 ∷ 0x55 ∷ 0x55
     ∷ 0x46 ∷ 0x53 ∷ 1 ∷ 31 ∷ 0 ∷ 0 ∷ 0 ∷ 0 ∷ 0 ∷ 0 ∷ 0 ∷ 0 ∷ []
 
--- `ok 92800003`, `ok 0 60 0`, `no 2`
+-- `ok 92800003`, `ok 0 60 0 2`, `no 2`
 abbrev pub threeLines : List ℕ
 threeLines =
     111 ∷ 107 ∷ 32 ∷ 57 ∷ 50 ∷ 56 ∷ 48 ∷ 48 ∷ 48 ∷ 48 ∷ 51 ∷ 10
-    ∷ 111 ∷ 107 ∷ 32 ∷ 48 ∷ 32 ∷ 54 ∷ 48 ∷ 32 ∷ 48 ∷ 10
+    ∷ 111 ∷ 107 ∷ 32 ∷ 48 ∷ 32 ∷ 54 ∷ 48 ∷ 32 ∷ 48 ∷ 32 ∷ 50 ∷ 10
     ∷ 110 ∷ 111 ∷ 32 ∷ 50 ∷ 10 ∷ []
 
 computed : textsOf (linesOf 0 three) ≡ threeLines
-unfolding decimal marked valueOf askedBy lineOf linesOf encodeOf movSaid movWords long short count others
+unfolding decimal marked valueOf askedBy lineOf linesOf encodeOf esize len highestSetBit movSaid movWords long short count others
 computed = refl
 
 -- "print exactly"
@@ -58,10 +59,10 @@ pub every-kind :
     ++ (0x46 ∷ []))
     ≡ words (0xD28ACF00 ∷ 0xF2A24680 ∷ [])
     ∷ words (0xD291111E ∷ 0xF2AEEEFE ∷ 0xF2CCCCDE ∷ 0xF2EAAABE ∷ [])
-    ∷ numbers (1 ∷ 7 ∷ 0 ∷ [])
-    ∷ numbers (1 ∷ 7 ∷ 0 ∷ [])
+    ∷ numbers (1 ∷ 7 ∷ 0 ∷ 64 ∷ [])
+    ∷ numbers (1 ∷ 7 ∷ 0 ∷ 64 ∷ [])
     ∷ no 3
-    ∷ numbers (0 ∷ 7 ∷ 0 ∷ [])
+    ∷ numbers (0 ∷ 7 ∷ 0 ∷ 32 ∷ [])
     ∷ numbers (112 ∷ [])
     ∷ no 3
     ∷ no 7
@@ -69,7 +70,7 @@ pub every-kind :
     ∷ no 7
     ∷ cutAt 132
     ∷ []
-unfolding marked valueOf askedBy lineOf linesOf encodeOf movSaid movWords long short count others
+unfolding marked valueOf askedBy lineOf linesOf encodeOf esize len highestSetBit movSaid movWords long short count others
 every-kind = refl
 
 -- the first byte of the mark, and the second; a bad mark is the end

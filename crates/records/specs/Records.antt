@@ -8,7 +8,7 @@ use lib.ListN.{getD}
 use Rattle.words.specs.Said.{Said, ok, no}
 use Rattle.lines.specs.Item.{Item}
 use Rattle.lines.specs.Item as item
-use Rattle.logical.specs.Answer.{Encoded}
+use Rattle.logical.specs.Answer.{numbersOf, Encoded}
 use Rattle.logical.specs.declared.LogicalImm.{LogicalImm}
 use Rattle.moves.specs.Moves.{movSaid}
 use Rattle.immediates.specs.Says.{FloatSays}
@@ -46,13 +46,14 @@ askedBy k =
     (cond (eqb k 4) fp64
     other)))
 
--- "`ok` and words in 8 lower-case hex digits, or N S R in decimal, or the 8-bit float in decimal; `no` and a number"
+-- "`ok` and words in 8 lower-case hex digits, or N S R in decimal, or the 8-bit float in decimal; `no` and a number";
+-- "kinds 2 and 3 now print a fourth number", the element length
 abbrev pub wordsLine : Said (List ℕ) → Item
 wordsLine (ok ws) = item.words ws
 wordsLine (no n) = item.no n
 
 abbrev pub fieldsLine : Said LogicalImm → Item
-fieldsLine (ok f) = item.numbers (f .n ∷ f .s ∷ f .r ∷ [])
+fieldsLine (ok f) = item.numbers (numbersOf f)
 fieldsLine (no n) = item.no n
 
 abbrev pub floatLine : Said ℕ → Item

@@ -46,12 +46,12 @@ fn of_move(register: u8, value: u64) -> Answer
     }
 }
 
-// Kinds 2 and 3: N, S and R.
+// Kinds 2 and 3: N, S, R and the element length.
 fn of_fields(value: u64, width: u32) -> Answer
     ensures { λ a. ⌜ OneLine (Says (Asked.fields width) 0 value) a ⌝ }
 {
     match logical::encode_logical_imm(value, width) {
-        LogicalAnswer::Fields(f) => Answer::Numbers(words::three(f.n, f.s, f.r)),
+        LogicalAnswer::Fields(f) => Answer::Numbers(words::four(f.n, f.s, f.r, f.length)),
         LogicalAnswer::NoFields(r) => Answer::No(r),
     }
 }

@@ -64,7 +64,7 @@ fn checks(r: Request) -> Answer {
 
 fn fields(a: LogicalAnswer) -> Answer {
     match a {
-        LogicalAnswer::Fields(f) => Answer::Numbers(words::three(f.n, f.s, f.r)),
+        LogicalAnswer::Fields(f) => Answer::Numbers(words::four(f.n, f.s, f.r, f.length)),
         LogicalAnswer::NoFields(r) => Answer::No(r),
     }
 }

@@ -5,6 +5,7 @@ use Rattle.words.proofs.address_of.Reads as address-of
 use Rattle.words.proofs.one.Reads as one
 use Rattle.words.proofs.two.Reads as two
 use Rattle.words.proofs.three.Reads as three
+use Rattle.words.proofs.four.Reads as four
 use Rattle.words.proofs.bit_test.Reads as bit-test
 use Rattle.words.proofs.lsb_mask.Reads as lsb-mask
 use Rattle.words.proofs.low_bits.Reads as low-bits
@@ -25,6 +26,9 @@ two-determined k a r s x y p q = one-answer p q
 
 pub three-determined : OneAnswer three.Post
 three-determined k a r s x y p q = one-answer p q
+
+pub four-determined : OneAnswer four.Post
+four-determined k a r s x y p q = one-answer p q
 
 pub bit-test-determined : OneAnswer bit-test.Post
 bit-test-determined k a r s x y p q = one-answer p q

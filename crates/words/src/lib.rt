@@ -124,6 +124,18 @@ pub fn three(u: u32, v: u32, w: u32) -> Words
     upto(3, u, v, w)
 }
 
+pub fn four(t: u32, u: u32, v: u32, w: u32) -> Words
+    ensures { λ r. ⌜ r ≡ wordsOf (t ∷ u ∷ v ∷ w ∷ []) ⌝ }
+{
+    Words {
+        count: 4,
+        a: t,
+        b: u,
+        c: v,
+        d: w,
+    }
+}
+
 // Whether bit n of a word is set; a bit past the word is not.
 pub fn bit_test(value: u32, n: u32) -> bool
     ensures { λ r. ⌜ r ≡ bitOf value n ⌝ }

@@ -88,7 +88,7 @@ fn asked(r: &Request, tail: usize) -> Result<Answer, String> {
         }
         ENCODE_LOGICAL => {
             let fields = vaimalofo::logical_fields(a, b as u32);
-            Ok(numbers(fields.map(|f| vec![f.n.into(), f.s.into(), f.r.into()])))
+            Ok(numbers(fields.map(|f| [f.n, f.s, f.r, f.length].map(u64::from).to_vec())))
         }
         LOGICAL_WORD => {
             let (operation, width, rn, rd) = (a as u32, c as u32, d as u32, e as u32);

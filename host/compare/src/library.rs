@@ -39,7 +39,7 @@ impl Library {
         unsafe { (self.mov)(bytes.as_mut_ptr(), bytes.len(), 0, position, value, register) }
     }
 
-    /// The fields above the refusal's number.
+    /// The fields and their element's length above the refusal's number; before request d there was no length, and 0 in its place.
     #[inline]
     pub fn logical_fields(self, value: u64, width: u32) -> u64 {
         // SAFETY: numbers alone.

@@ -48,22 +48,29 @@ fn random(part: u64, item: u64) -> Random {
 
 // ---- all values of 32 bits
 
-/// Logical fields at width 32.
+/// Logical fields and their element's length at width 32.
 pub fn fields_32(slice: Slice) -> Part {
     Part {
         name: "fields",
-        what: format!("logical fields at width 32 of {} 2^32 values", slice.text()),
+        what: format!(
+            "logical fields and their element's length at width 32 of {} 2^32 values",
+            slice.text()
+        ),
         items: slice.count(1 << 32),
         check: Box::new(move |i, tally| fields_of(slice.item(i), tally)),
     }
 }
 
+/// The model's length is Arm's for its N and S. The Rust has none.
 fn fields_of(value: u64, tally: &mut Tally) {
-    let entry = vaimalofo::logical_fields(value, 32).map(|Fields { n, s, r }| [n, s, r]);
+    let numbers = |Fields { n, s, r, length }| [n, s, r, length];
+    let entry = vaimalofo::logical_fields(value, 32).map(numbers);
     let document = logical::encode_logical_imm(value, 32);
     let original = rust::encode_logical_imm(value, 32);
     let agree = match (entry, document) {
-        (Ok(entry), Ok(document)) => entry == document && original == Ok(Some(entry)),
+        (Ok(entry @ [n, s, r, _]), Ok(document)) => {
+            entry == document && original == Ok(Some([n, s, r]))
+        }
         (Err(refusal), Err(No(3))) => refusal.number() == 3 && original == Ok(None),
         _ => false,
     };

@@ -1,5 +1,5 @@
-//! Module 4. Decoding: every N, S and R at both widths, and numbers outside with wrong widths.
-//! Normalising: every second of them, at width 64 where N is 1, else at either width in turn.
+//! Module 4. Decoding and normalising: every N, S and R at both widths, and numbers outside with
+//! wrong widths.
 
 use super::random::Random;
 use super::{List, U32, WRONG_WIDTHS};
@@ -10,11 +10,8 @@ pub const LIST: List = List { number: 3, entries: &[DECODE_LOGICAL, NORMALISE], 
 fn requests() -> Vec<Request> {
     let mut list = vec![];
     for [n, s, r] in (0..2 * 64 * 64).map(|i| [i >> 12, i >> 6 & 63, i & 63]) {
-        list.push(Request::new(DECODE_LOGICAL, &[n, s, r, 32]));
-        list.push(Request::new(DECODE_LOGICAL, &[n, s, r, 64]));
-        if (n + s + r) % 2 == 0 {
-            let width = if n == 1 || s % 2 == 0 { 64 } else { 32 };
-            list.push(Request::new(NORMALISE, &[n, s, r, width]));
+        for entry in [DECODE_LOGICAL, NORMALISE] {
+            list.extend([32, 64].map(|width| Request::new(entry, &[n, s, r, width])));
         }
     }
     let outside = [[2, 7, 0], [U32, 7, 0], [0, 64, 0], [1, U32, 0], [0, 60, 64], [1, 7, U32]];

@@ -48,11 +48,11 @@ impl Answer {
         Self { said, run }
     }
 
-    /// The same with the low bits of a target behind the position, where there are any; a refusal has
-    /// none.
-    pub fn carrying(mut self, low: Option<u64>) -> Self {
+    /// The same with one number more behind the others, where there is one: the low bits of a
+    /// target, or the length of an element. A refusal has none.
+    pub fn carrying(mut self, number: Option<u64>) -> Self {
         if let Said::Numbers(numbers) = &mut self.said {
-            numbers.extend(low);
+            numbers.extend(number);
         }
         self
     }

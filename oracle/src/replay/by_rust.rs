@@ -2,7 +2,8 @@
 
 use super::answer::Answer;
 use super::request::{Request, entry::*};
-use crate::document::{No, displacements, logical};
+use crate::document::logical::{self, Fields};
+use crate::document::{No, displacements};
 use crate::rust::{self, Panics};
 
 #[derive(Clone, Debug, PartialEq, Eq)]
@@ -28,6 +29,16 @@ impl Heard {
             Says(answer) => Says(answer.carrying(low)),
             other => other,
         }
+    }
+
+    /// Fields, or refusal 3 where none were found. The length behind them, which the Rust has no
+    /// place for either, is Arm's for these very N and S, whatever was asked.
+    pub fn fields(found: Option<Fields>) -> Self {
+        let answer = |[n, s, r]: Fields| {
+            let length = logical::element_length(n, s);
+            Answer::numbers(&[n, s, r].map(u64::from)).carrying(length.map(u64::from))
+        };
+        Says(found.map_or(Answer::no(3), answer))
     }
 }
 
@@ -103,10 +114,9 @@ fn module_2(r: &Request) -> Heard {
 
 fn module_3(r: &Request) -> Heard {
     match r.entry {
-        ENCODE_LOGICAL => unless_panics(rust::encode_logical_imm(r.args[0], r.low(1)), |fields| {
-            let answer = fields.map(|fields| Answer::numbers(&fields.map(u64::from)));
-            Says(answer.unwrap_or(Answer::no(3)))
-        }),
+        ENCODE_LOGICAL => {
+            unless_panics(rust::encode_logical_imm(r.args[0], r.low(1)), Heard::fields)
+        }
         LOGICAL_WORD => {
             // The original has its base words, and the registers' places, in files that are not
             // here: both are document 01's.

@@ -117,11 +117,7 @@ fn fields_at(value: u64, width: u32) -> Option<Option<Fields>> {
 }
 
 fn fields(r: &Request) -> Heard {
-    match fields_at(r.args[0], r.low(1)) {
-        Some(Some(fields)) => Says(Answer::numbers(&fields.map(u64::from))),
-        Some(None) => Says(Answer::no(3)),
-        None => Panics,
-    }
+    fields_at(r.args[0], r.low(1)).map_or(Panics, Heard::fields)
 }
 
 /// Base and places are document 01's; what is too long for its place runs into the next ones, but the

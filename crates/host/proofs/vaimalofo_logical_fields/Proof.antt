@@ -1,5 +1,6 @@
 -- `host::vaimalofo_logical_fields` meets its contract. Assumes nothing.
 use Rattle.words.specs.Said.{ok, no}
+use Rattle.logical.proofs.Laws.{length-low}
 use borrow.Author.Needs.{needs}
 use Rattle.host.proofs.vaimalofo_logical_fields.Statement.{statement}
 use Rattle.host.proofs.vaimalofo_logical_fields.Tie as tie
@@ -7,7 +8,7 @@ use Rattle.host.proofs.vaimalofo_logical_fields.Tie as tie
 spelled-requires : tie.Need-spelled-requires
 spelled-requires c κs =
     let h = rw (c .before .f .given .1) at (c .before .before .before .encode-logical-imm .ensures) in
-    (h .1 .legal .n-bits, h .1 .legal .s-bits, h .1 .legal .r-bits)
+    (h .1 .legal .n-bits, h .1 .legal .s-bits, h .1 .legal .r-bits, length-low (h .0) (h .1 .legal) (h .3))
 
 returns : tie.Need-returns
 returns c =

@@ -9,7 +9,7 @@ returns : tie.Need-returns
 returns c =
     let at = c .before .before in
     let h = rw (at .f .given .1) at (at .before .before .encode-logical-imm .ensures) in
-    rw (c .three .ensures) (record { item = _; line = refl; plain = refl; says = (ok _, h, refl) })
+    rw (c .four .ensures) (record { item = _; line = refl; plain = refl; says = (ok _, h, refl) })
 
 returns-2 : tie.Need-returns-2
 returns-2 c =

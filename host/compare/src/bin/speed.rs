@@ -1,6 +1,7 @@
-//! speed: two million mixed values, each a move written into a run of bytes and its logical fields at width 64, by the C entries, by the
-//! Rust original and by a plain Rust program of document 01's rules; the same values, registers and run, in alternating rounds. Each
-//! argument is a shared object made of the library of another build, which is then a side too.
+//! speed: two million mixed values, each a move written into a run of bytes and its logical fields at width 64, with their element's
+//! length, by the C entries, by the Rust original, which has no length, and by a plain Rust program of document 01's rules; the same values,
+//! registers and run, in alternating rounds. Each argument is a shared object made of the library of another build, which is then a side
+//! too.
 
 use std::env;
 use std::fs;
@@ -46,13 +47,16 @@ fn register(i: usize) -> u32 {
 struct Side {
     name: String,
     moves: Box<dyn Fn(&[u64], &mut [u8]) -> usize>,
-    fields: Box<dyn Fn(&[u64]) -> u64>,
+    fields: Box<dyn Fn(&[u64]) -> Sums>,
 }
+
+/// The sum of all fields, and that of their elements' lengths: 0 of the Rust original, and of a library from before request d.
+type Sums = [u64; 2];
 
 fn side(
     name: &str,
     moves: impl Fn(&[u64], &mut [u8]) -> usize + 'static,
-    fields: impl Fn(&[u64]) -> u64 + 'static,
+    fields: impl Fn(&[u64]) -> Sums + 'static,
 ) -> Side {
     Side { name: name.to_string(), moves: Box::new(moves), fields: Box::new(fields) }
 }
@@ -115,22 +119,27 @@ fn plain_moves(values: &[u64], run: &mut [u8]) -> usize {
     put_all(values, run, batch_plain::move_words)
 }
 
-/// The fields of all values that have some, in one number each, summed up.
+/// N, S and R of all values that have some, in one number each, summed up, and beside them the lengths: every side is asked for all that
+/// it has.
 #[inline]
-fn sum_fields(values: &[u64], fields_of: impl Fn(u64) -> Option<[u32; 3]>) -> u64 {
+fn sum_fields(values: &[u64], fields_of: impl Fn(u64) -> Option<[u32; 4]>) -> Sums {
     let fields = values.iter().filter_map(|value| fields_of(*value));
-    fields.map(|[n, s, r]| u64::from(n << 12 | s << 6 | r)).sum()
+    fields.fold([0, 0], |[sum, lengths], [n, s, r, length]| {
+        [sum + u64::from(n << 12 | s << 6 | r), lengths + u64::from(length)]
+    })
 }
 
-fn entry_fields(values: &[u64]) -> u64 {
-    sum_fields(values, |value| vaimalofo::logical_fields(value, 64).ok().map(|f| [f.n, f.s, f.r]))
+fn entry_fields(values: &[u64]) -> Sums {
+    sum_fields(values, |value| {
+        vaimalofo::logical_fields(value, 64).ok().map(|f| [f.n, f.s, f.r, f.length])
+    })
 }
 
-fn original_fields(values: &[u64]) -> u64 {
-    sum_fields(values, |value| direct::encode_logical_imm(value, 64))
+fn original_fields(values: &[u64]) -> Sums {
+    sum_fields(values, |value| direct::encode_logical_imm(value, 64).map(|[n, s, r]| [n, s, r, 0]))
 }
 
-fn plain_fields(values: &[u64]) -> u64 {
+fn plain_fields(values: &[u64]) -> Sums {
     sum_fields(values, |value| batch_plain::logical_fields(value, 64))
 }
 
@@ -144,11 +153,11 @@ fn library_moves(library: Library, values: &[u64], run: &mut [u8]) -> usize {
     at
 }
 
-fn library_fields(library: Library, values: &[u64]) -> u64 {
+fn library_fields(library: Library, values: &[u64]) -> Sums {
     sum_fields(values, |value| {
         let answer = library.logical_fields(value, 64);
-        let fields = (answer >> 8) as u32;
-        (answer as u8 == 0).then_some([fields >> 16, fields >> 8 & 0xFF, fields & 0xFF])
+        let byte = |at: u32| u32::from((answer >> at) as u8);
+        (byte(0) == 0).then_some([byte(24), byte(16), byte(8), byte(32)])
     })
 }
 
@@ -175,25 +184,25 @@ fn main() {
     let values = value_list();
     let mut run = vec![0; 16 * VALUES];
     let mut times = vec![[vec![], vec![], vec![]]; sides.len()];
-    let mut totals = vec![(0, 0, 0); sides.len()];
+    let mut totals = vec![(0, 0, [0, 0]); sides.len()];
     for round in 0..ROUNDS {
         for k in 0..sides.len() {
             let at = (k + round) % sides.len();
             let Side { moves, fields, .. } = &sides[at];
             run.fill(0);
-            let (mut words, mut sum) = (0, 0);
+            let (mut words, mut sums) = (0, [0, 0]);
             let moved = timed(began, || words = moves(black_box(&values), &mut run));
-            let found = timed(began, || sum = fields(black_box(&values)));
+            let found = timed(began, || sums = fields(black_box(&values)));
             for (column, seconds) in times[at].iter_mut().zip([moved, found, moved + found]) {
                 column.push(seconds);
             }
-            totals[at] = (words, fingerprint(&run[..4 * words]), sum);
+            totals[at] = (words, fingerprint(&run[..4 * words]), sums);
         }
     }
     report(&sides, &times, &totals);
 }
 
-fn report(sides: &[Side], times: &[[Vec<f64>; 3]], totals: &[(usize, u64, u64)]) {
+fn report(sides: &[Side], times: &[[Vec<f64>; 3]], totals: &[(usize, u64, Sums)]) {
     println!("{VALUES} mixed values (values::mixed, seed and stream in speed.rs), {ROUNDS} rounds in turn, one thread, processor time");
     println!("the run of {} bytes was cleared before each round, outside of the time", 16 * VALUES);
     // The library named last, or the C entries where none is named.
@@ -213,7 +222,10 @@ fn report(sides: &[Side], times: &[[Vec<f64>; 3]], totals: &[(usize, u64, u64)])
         }
         println!();
     }
-    for (side, (words, bytes, sum)) in sides.iter().zip(totals) {
-        println!("{}: {words} words, fingerprint {bytes:x}, fields sum {sum:x}", side.name);
+    for (side, (words, bytes, [sum, lengths])) in sides.iter().zip(totals) {
+        println!(
+            "{}: {words} words, fingerprint {bytes:x}, fields sum {sum:x}, lengths sum {lengths:x}",
+            side.name
+        );
     }
 }
