@@ -6,16 +6,16 @@ use native.Mathlib.Nat.{mod-eq-of-lt, mod-mod}
 use native.Mathlib.Omega.{arith}
 use Rattle.arm.specs.Bits.{Ones}
 use Rattle.arm.specs.BitMasks.{IsWidth, Legal, wmask, esize}
-use Rattle.arm.specs.Elements.{IsRun, nOf, sOf}
-use Rattle.arm.proofs.Fields.{legal-element}
+use Rattle.arm.specs.Elements.{IsRun}
+use Rattle.arm.proofs.Fields.{spelt, legal-element}
 use Rattle.arm.proofs.Lengths.{ones-mod, width-le}
 use Rattle.arm.proofs.Trailing.{parity}
 use Rattle.arm.proofs.Masks as masks
 use Rattle.arm.proofs.Laws.{shape, same-fields}
 use Rattle.words.specs.Said.{Said, ok, no}
 use Rattle.logical.specs.declared.LogicalImm.{LogicalImm}
-use Rattle.logical.specs.Answer.{fields, Refused, Decodes, Encoded}
-use Rattle.logical.specs.Run.{Evened}
+use Rattle.logical.specs.Answer.{Refused, Decodes, Encoded}
+use Rattle.logical.specs.Run.{spelling, Evened}
 
 -- ---- one answer
 
@@ -77,15 +77,17 @@ turned {w} {v} ww h odd =
     record { same = λ q. absurd (omega arith); other = λ q. refl; even = omega arith; small = omega arith }
 
 module _ {w v : ℕ} (ww : IsWidth w) (small : v < 2 ^ w) where
-  pub even-answer : {e p l : ℕ} → IsRun w v e p l → Encoded w v (ok (fields (nOf e) (sOf e l) (e - p)))
-  even-answer h =
+  pub even-answer : {e p l : ℕ} → IsRun w v e p l → Encoded w v (ok (spelling e l (e - p)))
+  even-answer {e} {p} {l} h =
       let t = masks.run-even ww h in
-      (ww, record { legal = t .0 .legal; mask = t .1 ∙ sym (mod-eq-of-lt small) }, t .0 .turned, refl)
+      let e-is = spelt l (h .element) (h .some) (omega arith) .e-is in
+      (ww, record { legal = t .0 .legal; mask = t .1 ∙ sym (mod-eq-of-lt small) }, t .0 .turned, sym e-is)
 
-  pub odd-answer : {e p l : ℕ} → IsRun w (Ones w - v) e p l → Encoded w v (ok (fields (nOf e) (sOf e (e - l)) (e - p - l)))
-  odd-answer h =
+  pub odd-answer : {e p l : ℕ} → IsRun w (Ones w - v) e p l → Encoded w v (ok (spelling e (e - l) (e - p - l)))
+  odd-answer {e} {p} {l} h =
       let t = masks.run-odd ww h in
-      (ww, record { legal = t .0 .legal; mask = omega (arith, t .1) ∙ sym (mod-eq-of-lt small) }, t .0 .turned, refl)
+      let e-is = spelt (e - l) (h .element) (omega arith) (omega arith) .e-is in
+      (ww, record { legal = t .0 .legal; mask = omega (arith, t .1) ∙ sym (mod-eq-of-lt small) }, t .0 .turned, sym e-is)
 
   pub no-answer : {x : ℕ} → Evened w v x → ((e p l : ℕ) → IsRun w x e p l → ⊥) → Encoded w v (no 3)
   no-answer {x} t none = inr (

@@ -4,9 +4,8 @@ ghost use mathlib.Core.Path.{_≡_};
 ghost use Prim.Native.Nat.{_%_, _^_, _≤_, _<_};
 ghost use lib.Count.{trailingZeros};
 ghost use Rattle.arm.specs.Bits.{ROR};
-ghost use Rattle.arm.specs.Elements.{Element, nOf, sOf};
-ghost use Rattle.logical.specs.Answer.{fields, fieldsSaid, Encoded};
-ghost use Rattle.logical.specs.Run.{Found, Evened};
+ghost use Rattle.logical.specs.Answer.{fieldsSaid, Encoded};
+ghost use Rattle.logical.specs.Run.{Found, spelling, Evened};
 
 // The fields N, S and R, and the length of the element that repeats, in bits.
 pub struct LogicalImm {
@@ -76,8 +75,8 @@ fn evened(v: u64) -> u64
 // The fields of a run of l ones in an element of e bits, turned to the right by r. S is l - 1 below a prefix that tells e: ones down to a
 // zero at the bit of e.
 fn spell(e: u32, l: u32, r: u32) -> LogicalImm
-    requires { ⌜ Element 64 e × (0 < l) × (l < e) × (e ≤ 64) ⌝ }
-    ensures { λ f. ⌜ f ≡ fields (nOf e) (sOf e l) r ⌝ }
+    requires { ⌜ (0 < l) × (l < e) × (e ≤ 64) ⌝ }
+    ensures { λ f. ⌜ f ≡ spelling e l r ⌝ }
 {
     LogicalImm {
         n: e / 64,

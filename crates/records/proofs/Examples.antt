@@ -2,7 +2,6 @@
 use mathlib.Core.Path.{_≡_, refl, ap, _∙_}
 use mathlib.Core.List.{List, [], _∷_, _++_}
 use Prim.Native.Nat.{ℕ, zero, suc, _/_, _%_}
-use Rattle.arm.specs.BitMasks.{highestSetBit, len, esize}
 use Rattle.lines.specs.Item.{Item, words, numbers, no, badMark, cutAt}
 use Rattle.lines.specs.Text.{textsOf, decimal}
 use Rattle.halfwords.specs.Halfwords.{count}
@@ -27,7 +26,7 @@ threeLines =
     ∷ 110 ∷ 111 ∷ 32 ∷ 50 ∷ 10 ∷ []
 
 computed : textsOf (linesOf 0 three) ≡ threeLines
-unfolding decimal marked valueOf askedBy lineOf linesOf encodeOf esize len highestSetBit movSaid movWords long short count others
+unfolding decimal marked valueOf askedBy lineOf linesOf encodeOf movSaid movWords long short count others
 computed = refl
 
 -- "print exactly"
@@ -70,7 +69,7 @@ pub every-kind :
     ∷ no 7
     ∷ cutAt 132
     ∷ []
-unfolding marked valueOf askedBy lineOf linesOf encodeOf esize len highestSetBit movSaid movWords long short count others
+unfolding marked valueOf askedBy lineOf linesOf encodeOf movSaid movWords long short count others
 every-kind = refl
 
 -- the first byte of the mark, and the second; a bad mark is the end

@@ -19,7 +19,7 @@ sub-spell : tie.Need-sub-spell
 sub-spell c = omega (arith, run (c .before .before))
 
 spell-requires : tie.Need-spell-requires
-spell-requires c κs = let r = run (c .before .before) in (r .element, omega (arith, r), omega (arith, r), r .element .fits)
+spell-requires c κs = omega (arith, run (c .before .before))
 
 sub-spell-2 : tie.Need-sub-spell-2
 sub-spell-2 c = omega (arith, run (c .before .before))
@@ -31,7 +31,7 @@ sub-spell-4 : tie.Need-sub-spell-4
 sub-spell-4 c = omega (arith, run (c .before .before))
 
 spell-requires-2 : tie.Need-spell-requires-2
-spell-requires-2 c κs = let r = run (c .before .before) in (r .element, omega (arith, r), omega (arith, r), r .element .fits)
+spell-requires-2 c κs = omega (arith, run (c .before .before))
 
 returns : tie.Need-returns
 returns c =
