@@ -1,9 +1,12 @@
-//! Proves and builds the crate `host` of the repository that this package stands in, and links it.
+//! Has the C entries of the repository that this package stands in proved and compiled for cargo's target, and links them.
 
+use std::env;
 use std::io::{BufRead, BufReader};
-use std::path::{Path, PathBuf};
+use std::path::Path;
 use std::process::{Command, Stdio};
-use std::{env, fs};
+
+/// What the library is made from.
+const USED: &str = "KIT crates crates.txt gate/kit gate/module gate/prove host/include library targets/compile targets/portable.awk";
 
 fn main() {
     if let Err(why) = build() {
@@ -12,20 +15,16 @@ fn main() {
 }
 
 fn build() -> Result<(), String> {
-    let (arch, os) = (variable("CARGO_CFG_TARGET_ARCH")?, variable("CARGO_CFG_TARGET_OS")?);
-    if (arch.as_str(), os.as_str()) != ("x86_64", "linux") {
-        return Err(format!("the entries are compiled for x86-64 Linux, not for {arch} {os}"));
-    }
     let top = Path::new(&variable("CARGO_MANIFEST_DIR")?).join("..");
-    for watched in ["KIT", "crates.txt", "crates", "gate/kit", "gate/prove"] {
-        println!("cargo::rerun-if-changed={}", top.join(watched).display());
+    for used in USED.split(' ') {
+        println!("cargo::rerun-if-changed={}", top.join(used).display());
     }
-    prove(&top)?;
-    let (from, out) = (top.join("target/staticlib/libhost.a"), PathBuf::from(variable("OUT_DIR")?));
-    fs::copy(&from, out.join("libvaimalofo_entries.a"))
-        .map_err(|why| format!("cannot copy {}: {why}", from.display()))?;
-    println!("cargo::rustc-link-search=native={}", out.display());
-    println!("cargo::rustc-link-lib=static=vaimalofo_entries");
+    // The library asks for nothing of C's, so it is the same one beside musl.
+    let target = variable("TARGET")?.replace("-linux-musl", "-linux-gnu");
+    let folder = Path::new(&variable("OUT_DIR")?).join("library");
+    library(&top, &target, &folder)?;
+    println!("cargo::rustc-link-search=native={}", folder.display());
+    println!("cargo::rustc-link-lib=static=vaimalofo");
     Ok(())
 }
 
@@ -33,23 +32,28 @@ fn variable(name: &str) -> Result<String, String> {
     env::var(name).map_err(|why| format!("{name}: {why}"))
 }
 
-/// `rt staticlib host` by the project's own command, which compares the kit with the file KIT and says crate by crate what it proves: `cargo build -vv`
-/// shows that as it comes. All else that it says is a warning, or an error where it fails.
-fn prove(top: &Path) -> Result<(), String> {
-    let command = top.join("gate/prove");
-    let run = Command::new(&command).args(["staticlib", "host"]).stderr(Stdio::piped()).spawn();
+/// The project's own command `library`, which compares the kit with the file KIT and says crate by crate what it proves: `cargo build -vv` shows that as it
+/// comes. All else that it says is a warning, or an error where it fails.
+fn library(top: &Path, target: &str, folder: &Path) -> Result<(), String> {
+    let command = top.join("library");
+    let run = Command::new(&command)
+        .arg(target)
+        .arg(folder)
+        .stdout(Stdio::null())
+        .stderr(Stdio::piped())
+        .spawn();
     let mut child = run.map_err(|why| format!("cannot run {}: {why}", command.display()))?;
-    let said = child.stderr.take().ok_or("gate/prove has no standard error")?;
+    let said = child.stderr.take().ok_or("library has no standard error")?;
     let mut rest = Vec::new();
     for line in BufReader::new(said).lines() {
-        let line = line.map_err(|why| format!("cannot read what gate/prove says: {why}"))?;
+        let line = line.map_err(|why| format!("cannot read what library says: {why}"))?;
         if line.starts_with("proving ") {
             eprintln!("{line}");
         } else {
             rest.push(line);
         }
     }
-    let status = child.wait().map_err(|why| format!("gate/prove: {why}"))?;
+    let status = child.wait().map_err(|why| format!("library: {why}"))?;
     let kind = if status.success() { "warning" } else { "error" };
     for line in rest {
         println!("cargo::{kind}={line}");
@@ -57,6 +61,6 @@ fn prove(top: &Path) -> Result<(), String> {
     if status.success() {
         Ok(())
     } else {
-        Err("the entries are not proved, or could not be built".to_string())
+        Err(format!("there is no library for {target}"))
     }
 }

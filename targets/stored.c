@@ -1,0 +1,147 @@
+/* stored REQUESTS ANSWERS: asks the C entries those of the stored requests that they serve (docs/REQUESTS.md), and compares what they answer and write with
+ * the stored answers.
+ *
+ * A parameter of 32 bits is declared with 64 here, also the one that lies on the stack: what a caller leaves in the upper half is nobody's, so each request is
+ * asked with four upper halves. Its run starts at four distances from a multiple of four, with a tail of 0 to 3 bytes, between bytes that must stay. On
+ * AArch64 every call goes through `watched`, which looks at the registers that a function has to give back as they were: how that is done is
+ * what most parts one system's code from another's. */
+#include <inttypes.h>
+#include <stdio.h>
+#include <string.h>
+
+uint64_t vaimalofo_move(uint8_t *, size_t, uint64_t, size_t, uint64_t, uint64_t reg);
+uint64_t vaimalofo_patchable_move(uint8_t *, size_t, uint64_t, size_t, uint64_t, uint64_t size, uint64_t reg);
+uint64_t vaimalofo_logical_fields(uint64_t, uint64_t width);
+uint64_t vaimalofo_logical_word(uint8_t *, size_t, uint64_t, size_t, uint64_t operation, uint64_t, uint64_t width, uint64_t rn, uint64_t rd);
+uint64_t vaimalofo_displacement(uint8_t *, size_t, uint64_t, size_t, uint64_t format, uint64_t base, int64_t);
+uint64_t vaimalofo_displacement_to(uint8_t *, size_t, uint64_t, size_t, uint64_t format, uint64_t base, uint64_t);
+uint64_t vaimalofo_has_form(uint64_t format, uint64_t word);
+uint64_t vaimalofo_read_displacement(uint64_t word, uint64_t format);
+
+uint64_t watched_entry, watched_lost;
+#ifdef __aarch64__
+uint64_t watched(void);
+/* Calls watched_entry with the arguments that it has itself, nine at most, and adds to watched_lost what changed in sp, x19 to x29 and d8 to d15. */
+__asm__(".text\n.globl watched\n.type watched, %function\nwatched:\n"
+        "ldr x9, [sp]\n"
+        "stp x29, x30, [sp, #-160]!\n"
+        "stp x19, x20, [sp, #16]\nstp x21, x22, [sp, #32]\nstp x23, x24, [sp, #48]\nstp x25, x26, [sp, #64]\nstp x27, x28, [sp, #80]\n"
+        "stp d8, d9, [sp, #96]\nstp d10, d11, [sp, #112]\nstp d12, d13, [sp, #128]\nstp d14, d15, [sp, #144]\n"
+        "str x9, [sp, #-16]!\n"
+        "mov x29, sp\n"
+        ".irp r, 8, 9, 10, 11, 12, 13, 14, 15\nmovn x10, #\\r * 1003\nfmov d\\r, x10\n.endr\n"
+        ".irp r, 19, 20, 21, 22, 23, 24, 25, 26, 27, 28\nmovn x\\r, #\\r * 1001\n.endr\n"
+        "adrp x16, watched_entry\nldr x16, [x16, :lo12:watched_entry]\nblr x16\n"
+        "mov x9, sp\neor x9, x9, x29\n"
+        ".irp r, 8, 9, 10, 11, 12, 13, 14, 15\nmovn x10, #\\r * 1003\nfmov x11, d\\r\neor x10, x10, x11\norr x9, x9, x10\n.endr\n"
+        ".irp r, 19, 20, 21, 22, 23, 24, 25, 26, 27, 28\nmovn x10, #\\r * 1001\neor x10, x10, x\\r\norr x9, x9, x10\n.endr\n"
+        "adrp x10, watched_lost\nldr x11, [x10, :lo12:watched_lost]\norr x11, x11, x9\nstr x11, [x10, :lo12:watched_lost]\n"
+        "add sp, sp, #16\n"
+        "ldp x19, x20, [sp, #16]\nldp x21, x22, [sp, #32]\nldp x23, x24, [sp, #48]\nldp x25, x26, [sp, #64]\nldp x27, x28, [sp, #80]\n"
+        "ldp d8, d9, [sp, #96]\nldp d10, d11, [sp, #112]\nldp d12, d13, [sp, #128]\nldp d14, d15, [sp, #144]\n"
+        "ldp x29, x30, [sp], #160\nret\n");
+#define CALL(entry) (watched_entry = (uint64_t)(uintptr_t)(entry), (__typeof__(&(entry)))(uintptr_t)watched)
+#else
+#define CALL(entry) (entry)
+#endif
+
+enum { AROUND = 16, MOST_WORDS = 8, ALL = AROUND + 3 + 4 * MOST_WORDS + 3 + AROUND, UNTOUCHED = 0x5C };
+
+/* Where a request has the words of its run, with position and base address behind them: 0 where it has no run. */
+static int run_at(uint64_t entry) {
+    switch (entry) {
+    case 18:
+    case 19: return 1;
+    case 49: return 6;
+    case 80: return 3;
+    case 96:
+    case 112:
+    case 113: return 4;
+    default: return 0;
+    }
+}
+
+static size_t words_of(const uint64_t *q) {
+    int at = run_at(q[0]);
+    return at == 0 ? 0 : q[0] == 19 ? (q[1] % 33 + 3) / 4 : q[at] % 9;
+}
+
+static int served(uint64_t entry) {
+    return entry == 48 || entry == 49 || entry == 80 || entry == 96 || (entry >= 112 && entry <= 115);
+}
+
+static uint64_t ask(const uint64_t *q, uint64_t upper, uint8_t *run, size_t length) {
+    uint64_t position = q[run_at(q[0]) + 1], base = q[run_at(q[0]) + 2], cut[9];
+    for (int i = 0; i < 9; i++) cut[i] = (q[i] & 0xFFFFFFFF) | upper;
+    switch (q[0]) {
+    case 48: return CALL(vaimalofo_logical_fields)(q[1], cut[2]);
+    case 49: return CALL(vaimalofo_logical_word)(run, length, base, position, cut[1], q[2], cut[3], cut[4], cut[5]);
+    case 80: return CALL(vaimalofo_move)(run, length, base, position, q[1], cut[2]);
+    case 96: return CALL(vaimalofo_patchable_move)(run, length, base, position, q[1], cut[2], cut[3]);
+    case 112: return CALL(vaimalofo_displacement)(run, length, base, position, cut[1], cut[2], (int64_t)q[3]);
+    case 113: return CALL(vaimalofo_displacement_to)(run, length, base, position, cut[1], cut[2], q[3]);
+    case 114: return CALL(vaimalofo_read_displacement)(cut[1], cut[2]);
+    default: return CALL(vaimalofo_has_form)(cut[1], cut[2]);
+    }
+}
+
+/* Answer and run in the letters of the stored answers. A bit that an answer should not have shows in a number. */
+static void spell(char *text, const uint64_t *q, uint64_t answer, const uint8_t *run, size_t words) {
+    uint64_t value = answer >> 8;
+    if (answer & 0xFF) {
+        text += sprintf(text, "no %" PRIu64 "\n", answer);
+    } else if (q[0] == 48) {
+        text += sprintf(text, "ok %u %u %u %" PRIu64 "\n", (unsigned)(value >> 16 & 255), (unsigned)(value >> 8 & 255), (unsigned)(value & 255), value >> 24);
+    } else if (q[0] == 114) {
+        text += sprintf(text, "ok %08x %08x\n", (unsigned)(value >> 32 | (value >> 55 ? 0xFF000000 : 0)), (unsigned)value);
+    } else if (q[0] == 115) {
+        text += sprintf(text, "ok %" PRIu64 "\n", value);
+    } else {
+        text += sprintf(text, "ok %" PRIu64, q[run_at(q[0]) + 1] + (value & 255));
+        if (value >> 8 || (q[0] == 113 && (q[1] & 0xFFFFFFFF) == 4)) text += sprintf(text, " %" PRIu64, value >> 8);
+        text += sprintf(text, "\n");
+    }
+    for (size_t i = 0; i < words; i++, run += 4) {
+        text += sprintf(text, "%s%02x%02x%02x%02x", i % 4 == 0 ? "ok " : " ", run[3], run[2], run[1], run[0]);
+        if (i % 4 == 3 || i + 1 == words) text += sprintf(text, "\n");
+    }
+}
+
+/* Asks a request in the k-th of four ways: how many bytes beside its words have changed, and in `got` what came. */
+static size_t asked(const uint64_t *q, size_t k, char *got) {
+    static const uint64_t upper[4] = {0, UINT64_C(0xFFFFFFFF00000000), UINT64_C(0xA5A5A5A500000000), UINT64_C(0x8000000100000000)};
+    size_t words = words_of(q), start = AROUND + k, changed = 0;
+    uint8_t all[ALL] __attribute__((aligned(16)));
+    memset(all, UNTOUCHED, sizeof all);
+    for (size_t i = 0; i < words; i++) memcpy(all + start + 4 * i, (uint8_t[4]){(uint8_t)i, 0, 0, 0xA5}, 4);
+    spell(got, q, ask(q, upper[k], all + start, 4 * words + k), all + start, words);
+    for (size_t i = 0; i < ALL; i++) changed += (i < start || i >= start + 4 * words) && all[i] != UNTOUCHED;
+    return changed;
+}
+
+int main(int count, char **names) {
+    FILE *requests = count == 3 ? fopen(names[1], "rb") : NULL, *answers = requests ? fopen(names[2], "r") : NULL;
+    unsigned long read = 0, served_here = 0, wrong = 0;
+    uint8_t bytes[72];
+    if (!answers) return fprintf(stderr, "usage: stored REQUESTS ANSWERS\n"), 2;
+    while (fread(bytes, 1, sizeof bytes, requests) == sizeof bytes) {
+        uint64_t q[9] = {0};
+        char expected[256] = "", got[256], line[128];
+        for (int i = 0; i < 72; i++) q[i / 8] |= (uint64_t)bytes[i] << i % 8 * 8;
+        for (size_t i = 0; i < 1 + (words_of(q) + 3) / 4; i++) {
+            if (!fgets(line, sizeof line, answers)) return puts("the stored answers end too early"), 1;
+            strcat(expected, line);
+        }
+        read++;
+        if (!served(q[0])) continue;
+        served_here++;
+        for (size_t k = 0; k < 4; k++) {
+            size_t changed = asked(q, k, got);
+            if (strcmp(got, expected) == 0 && changed == 0) continue;
+            if (wrong++ < 5) printf("entry %" PRIu64 ", way %zu:\n%sstored:\n%s%zu bytes beside the words changed\n", q[0], k, got, expected, changed);
+        }
+    }
+    if (fgetc(answers) != EOF) return puts("the stored answers go on"), 1;
+    printf("%lu of %lu stored requests asked of the C entries, each in four ways: %lu wrong%s\n", served_here, read, wrong, watched_lost ? ", and registers were lost" : "");
+    return served_here == 0 || wrong != 0 || watched_lost != 0;
+}
