@@ -1,5 +1,5 @@
 /*
- * Vaimalofo: A64 machine words from proved encoders. Link the static library that `gate/prove staticlib host` writes (docs/HOST.md).
+ * Vaimalofo: A64 machine words from proved encoders. Link the static library that `./library TARGET` writes (docs/HOST.md).
  *
  * A run is a pointer to bytes and their number. The pointer is not NULL, also where the number is 0, and during a call nothing else
  * uses the bytes. In a run a word is four bytes, low byte first, and a tail under four bytes is no room. A position counts words.
