@@ -1,7 +1,7 @@
 #!/usr/bin/env python3
-"""instructions.py: how many machine instructions a call of each C entry takes on x86-64 and on Arm Linux, counted by QEMU, one line of its trace for each. It asks
-the same stored requests on both, evenly taken from those that are not refused, each in the four ways of stored.c. A count is no time. At the top of
-the repository, where ./library has written both; it needs an x86-64 machine with cc, gcc for AArch64 and qemu-user."""
+"""instructions.py: how many machine instructions a call of each C entry takes on x86-64 and on Arm Linux, counted by QEMU, one line of its trace for each.
+It asks the same stored requests on both, evenly taken from those that are not refused, each in the four ways of stored.c. A count is no time. At the
+top of the repository, where ./library has written both; it needs an x86-64 machine with cc, gcc for AArch64 and qemu-user."""
 import os
 import subprocess
 import tempfile
@@ -63,7 +63,8 @@ def main():
             with open(answers, "w", encoding="ascii") as file:
                 file.write("".join(answer for _, _, answer in taken))
             means = [counted(machine, room, requests, answers) / (4 * len(taken)) for machine in MACHINES]
-            print(f"{entry}: of {len(taken)} requests, each asked four times:", ", ".join(f"{mean:.1f} on {machine}" for mean, machine in zip(means, MACHINES)), flush=True)
+            told = ", ".join(f"{mean:.1f} on {machine}" for mean, machine in zip(means, MACHINES))
+            print(f"{entry}: of {len(taken)} requests, each asked four times: {told}", flush=True)
 
 
 main()

@@ -18,7 +18,8 @@ BEGIN {
     inner = "^define internal (void|" type ") @\\((" type " %(, " type " %)*)?\\) #[0-9]+ \\{$"
     crossing = "^(define|declare) (void|ptr|i32|i64) @\\(((ptr|i32|i64)( %)?(, (ptr|i32|i64)( %)?)*)?\\) #[0-9]+( \\{)?$"
     llvm = "^declare .*@llvm\\.(memmove\\.p0\\.p0\\.i64|memset\\.p0\\.i64|ctlz\\.i(32|64)|cttz\\.i(32|64)|trap)\\("
-    around = "^(source_filename|target (datalayout|triple)) = \"[^\"]*\"$|^attributes #[0-9]+ = \\{ [^}]* \\}$|^![a-z0-9.]+ = !\\{.*\\}$|^[a-z]+(\\.[0-9]+)?:$|^}$|^$"
+    about = "^(source_filename|target (datalayout|triple)) = \"[^\"]*\"$|^attributes #[0-9]+ = \\{ [^}]* \\}$|^![a-z0-9.]+ = !\\{.*\\}$"
+    frame = "^[a-z]+(\\.[0-9]+)?:$|^}$|^$"
 }
 {
     whole = $0
@@ -26,7 +27,7 @@ BEGIN {
         sub(/;.*/, "")
         sub(/ +$/, "")
     }
-    if ($0 ~ around || $0 ~ llvm) next
+    if ($0 ~ about || $0 ~ frame || $0 ~ llvm) next
     gsub(/, ![a-z]+ ![0-9]+/, "")
     gsub(/%[A-Za-z0-9_.]+/, "%")
     gsub(/@("[^"]*"|[A-Za-z0-9_.]+)/, "@")

@@ -142,6 +142,7 @@ int main(int count, char **names) {
         }
     }
     if (fgetc(answers) != EOF) return puts("the stored answers go on"), 1;
-    printf("%lu of %lu stored requests asked of the C entries, each in four ways: %lu wrong%s\n", served_here, read, wrong, watched_lost ? ", and registers were lost" : "");
+    printf("%lu of %lu stored requests asked of the C entries, each in four ways: %lu wrong%s\n", served_here, read, wrong,
+           watched_lost ? ", and registers were lost" : "");
     return served_here == 0 || wrong != 0 || watched_lost != 0;
 }
