@@ -1,7 +1,7 @@
 #!/usr/bin/env python3
-"""image.py LINKED NAME: what a Mach-O dylib or a Windows DLL for Arm is in memory once it is loaded, as NAME.bin, and NAME.s, an ELF source of that memory with
-the C entries as symbols: code of another system for a program of Linux. No byte of it is changed. It finds its own constants by distances in pages, so
-the image starts at a page as it would there, and the three systems pass numbers and pointers in the same registers."""
+"""image.py LINKED NAME: what a Mach-O dylib or a Windows DLL for Arm is in memory once it is loaded, as NAME.bin, and NAME.s, an ELF source of that memory
+with the C entries as symbols: code of another system for a program of Linux. No byte of it is changed. It finds its own constants by distances in
+pages, so the image starts at a page as it would there, and the three systems pass numbers and pointers in the same registers."""
 import struct
 import sys
 

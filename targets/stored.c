@@ -1,10 +1,10 @@
-/* stored REQUESTS ANSWERS: asks the C entries those of the stored requests that they serve (docs/REQUESTS.md), and compares what they answer and write with
- * the stored answers.
+/* stored REQUESTS ANSWERS: asks the C entries those of the stored requests that they serve (docs/REQUESTS.md), and compares what they answer and write
+ * with the stored answers.
  *
- * A parameter of 32 bits is declared with 64 here, also the one that lies on the stack: what a caller leaves in the upper half is nobody's, so each request is
- * asked with four upper halves. Its run starts at four distances from a multiple of four, with a tail of 0 to 3 bytes, between bytes that must stay. On
- * AArch64 every call goes through `watched`, which looks at the registers that a function has to give back as they were: how that is done is
- * what most parts one system's code from another's. */
+ * A parameter of 32 bits is declared with 64 here, also the one that lies on the stack: what a caller leaves in the upper half is nobody's, so each
+ * request is asked with four upper halves. Its run starts at four distances from a multiple of four, with a tail of 0 to 3 bytes, between bytes that
+ * must stay. On AArch64 every call goes through `watched`, which looks at the registers that a function has to give back as they were: how that is
+ * done is what most parts one system's code from another's. */
 #include <inttypes.h>
 #include <stdio.h>
 #include <string.h>
