@@ -6,7 +6,7 @@ use std::path::Path;
 use std::process::{Command, Stdio};
 
 /// What the library is made from.
-const USED: &str = "KIT crates crates.txt gate/kit gate/module gate/prove host/include library targets/compile targets/portable.awk";
+const USED: &str = "KIT crates crates.txt gate/kit gate/module gate/own gate/prove host/include library targets/compile targets/portable.awk";
 
 fn main() {
     if let Err(why) = build() {

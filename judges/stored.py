@@ -75,4 +75,5 @@ def forms():
             print(f"{word % 2 ** 32:x}", form % 2 ** 32, "-" if answer == lacking else form % 2 ** 32)
 
 
-{"moves": moves, "displacements": displacements, "targets": targets, "forms": forms}[sys.argv[1]]()
+if __name__ == "__main__":
+    {"moves": moves, "displacements": displacements, "targets": targets, "forms": forms}[sys.argv[1]]()

@@ -3,13 +3,17 @@
 It asks the same stored requests on both, evenly taken from those that are not refused, each in the four ways of stored.c. A count is no time. At the
 top of the repository, where ./library has written both; it needs an x86-64 machine with cc, gcc for AArch64 and qemu-user."""
 import os
+import struct
 import subprocess
+import sys
 import tempfile
+
+sys.path.append(os.path.join(os.path.dirname(__file__), "../judges"))
+from stored import all_answered  # noqa: E402
 
 COUNT = 500
 ENTRIES = {80: "move", 96: "patchable_move", 48: "logical_fields", 49: "logical_word", 112: "displacement", 113: "displacement_to", 115: "has_form",
            114: "read_displacement"}
-RUN_AT = {18: 1, 19: 1, 49: 6, 80: 3, 96: 4, 112: 4, 113: 4}
 MACHINES = {"x86_64": "cc", "aarch64": "aarch64-linux-gnu-gcc"}
 
 
@@ -17,19 +21,12 @@ def said(*words):
     return subprocess.run(words, check=True, capture_output=True, text=True).stdout
 
 
-def stored(pair):
+def accepted():
     """Each stored request that is not refused, as its entry, its bytes and the lines of its answer."""
-    with open(f"crates/{pair}/stdin", "rb") as file:
-        requests = file.read()
-    with open(f"crates/{pair}/stdout", encoding="ascii") as file:
-        for at in range(0, len(requests), 72):
-            numbers = [int.from_bytes(requests[i:i + 8], "little") for i in range(at, at + 72, 8)]
-            entry, words = numbers[0], 0
-            if entry in RUN_AT:
-                words = (numbers[1] % 33 + 3) // 4 if entry == 19 else numbers[RUN_AT[entry]] % 9
-            answer = "".join(file.readline() for _ in range(1 + (words + 3) // 4))
-            if not answer.startswith("no "):
-                yield entry, requests[at:at + 72], answer
+    for entry, arguments, answer, words in all_answered():
+        if answer[0] == "ok":
+            lines = [answer] + [["ok", *words[i:i + 4]] for i in range(0, len(words), 4)]
+            yield entry, struct.pack("<9Q", entry, *arguments), "".join(" ".join(line) + "\n" for line in lines)
 
 
 def code_of(library, program):
@@ -52,7 +49,7 @@ def counted(machine, room, requests, answers):
 
 
 def main():
-    everything = [*stored("replay"), *stored("differences")]
+    everything = list(accepted())
     with tempfile.TemporaryDirectory() as room:
         for number, entry in ENTRIES.items():
             of_entry = [request for request in everything if request[0] == number]
