@@ -15,7 +15,7 @@ fn main() {
 }
 
 fn build() -> Result<(), String> {
-    let top = Path::new(&variable("CARGO_MANIFEST_DIR")?).join("..");
+    let top = Path::new(&variable("CARGO_MANIFEST_DIR")?).to_path_buf();
     for used in USED.split(' ') {
         println!("cargo::rerun-if-changed={}", top.join(used).display());
     }
