@@ -287,7 +287,7 @@ pub record Emitted (ws : List ℕ) (at : Place) (x : Said (List ℕ)) (p : Place
   pub others : (k : ℕ) → (k ≡ posOf at → ⊥) → getD ws′ k 0 ≡ getD ws k 0
 
 -- whatever one word was asked for
-one-put : (ws : List ℕ) (at : Place) (x : Said (List ℕ)) (p : Place) (ws′ : List ℕ) → Alone x → (ok p, ws′) ≡ putOf ws at x → Emitted ws at x p ws′
+pub one-put : (ws : List ℕ) (at : Place) (x : Said (List ℕ)) (p : Place) (ws′ : List ℕ) → Alone x → (ok p, ws′) ≡ putOf ws at x → Emitted ws at x p ws′
 one-put ws at x p ws′ one e = let d = put-done ws at x ws′ p e in go (d .vs) (d .asked) (d .base) (d .past) (d .holds) (d .fits)
   where
     go : (vs : List ℕ) → x ≡ ok vs → Aligned at → p ≡ on at (length vs) → ws′ ≡ sets ws (posOf at) vs → posOf at + length vs ≤ length ws → Emitted ws at x p ws′

@@ -4,6 +4,7 @@ use mathlib.Core.Option.{Option, some, none}
 use Prim.Native.Nat.{ℕ}
 use denote.Ref.{now}
 use lib.IntN.{ℤ}
+use Rattle.words.specs.declared.Opc.{Opc}
 use Rattle.words.specs.declared.Place.{Place}
 use Rattle.words.specs.declared.Words.{Words}
 use Rattle.words.proofs.Answers.{all-said, answered, refusal-back, made-all}
@@ -15,11 +16,19 @@ use Rattle.displacements.specs.declared.TargetWord.the-variants.{Word, P
 use Rattle.displacements.specs.declared.TargetWritten.{TargetWritten}
 use Rattle.displacements.specs.declared.TargetWritten.the-variants.{Wrote, WrotePage, NotWritten}
 use Rattle.displacements.specs.Answer.{wordSaid, writtenSaid, distanceSaid}
+use Rattle.displacements.proofs.clear_disp.Reads as clear-disp
 use Rattle.displacements.proofs.disp_word.Reads as disp-word
 use Rattle.displacements.proofs.disp_target_word.Reads as disp-target-word
 use Rattle.displacements.proofs.emit_disp_imm.Reads as emit-disp-imm
+use Rattle.displacements.proofs.put_target.Reads as put-target
 use Rattle.displacements.proofs.emit_disp_target.Reads as emit-disp-target
 use Rattle.displacements.proofs.read_disp.Reads as read-disp
+
+abbrev opcOf : ℕ → Opc
+opcOf w = record { 0 = w }
+
+pub clear-disp-determined : OneAnswer clear-disp.Post
+clear-disp-determined k a r s x y p q = ap opcOf (one-answer p q)
 
 pub disp-word-determined : OneAnswer disp-word.Post
 disp-word-determined k a r s x y p q = made-all r s (one-answer p q)
@@ -54,6 +63,9 @@ written-back (NotWritten r) = ap NotWritten (refusal-back r)
 
 pub written-all : (r s : TargetWritten) → writtenSaid r ≡ writtenSaid s → r ≡ s
 written-all = all-said writtenSaid (answered wroteOf NotWritten) written-back
+
+pub put-target-determined : OneWrite put-target.Post (λ k x. now (x .0))
+put-target-determined k a r s x y p q = let e = one-pair p q in (written-all r s (e .0), e .1)
 
 pub emit-disp-target-determined : OneWrite emit-disp-target.Post (λ k x. now (x .0))
 emit-disp-target-determined k a r s x y p q = let e = one-pair p q in (written-all r s (e .0), e .1)

@@ -1,5 +1,6 @@
 -- Laws that belong to no one function, what was asked for, and that each contract has one answer.
 pub mod Laws
+pub mod Cleared
 pub mod Distances
 pub mod Answers
 pub mod Targets

@@ -13,8 +13,7 @@ use Rattle.words.specs.Said.{Said, ok, no}
 use Rattle.words.specs.Listed.{packed}
 use Rattle.words.specs.declared.Place.{Place}
 use Rattle.words.proofs.Answers.{Short, list-back, not-both}
-use Rattle.displacements.specs.Answer.{targetSaid, lowOf, carrying, carried}
-use Rattle.displacements.specs.Private.{putTo}
+use Rattle.displacements.specs.Answer.{targetSaid, lowOf, carrying, carried, putTo}
 use Rattle.displacements.proofs.Answers.{target-short}
 
 module _ (n t : ℕ) where
@@ -47,7 +46,7 @@ carried-no {A} l k z n e = ap (λ (x : Said A). carried l (x, z .1)) e ∙ sym (
 
 -- for either writer, of which all that is known is that it refuses what is refused
 module _ (put : Said (List ℕ) → Said Place × List ℕ) (refuses : (n : ℕ) → (m : ℕ) × (put (no n) .0 ≡ no m)) where
-  put-to : (l : Option ℕ) (x : Said (List ℕ)) → Short x → putTo put (carrying l (packed x)) ≡ carried l (put x)
+  pub put-to : (l : Option ℕ) (x : Said (List ℕ)) → Short x → putTo put (carrying l (packed x)) ≡ carried l (put x)
   put-to l (ok vs) h = ap (λ (us : List ℕ). carried l (put (ok us))) (list-back vs h)
   put-to l (no n) h = carried-no none l (put (no n)) (refuses n .0) (refuses n .1)
 

@@ -12,6 +12,7 @@ use mir.Val.{toZ, ofZ}
 use Rattle.arm.specs.Displacements.{B, Bcond, TBZ, ADR, ADRP, LDR}
 use Rattle.words.specs.Said.{Said, ok, no}
 use Rattle.words.specs.Answer.{numberOf}
+use Rattle.words.specs.Listed.{listOf}
 use Rattle.words.specs.declared.Place.{Place}
 use Rattle.words.specs.declared.Words.{Words}
 use Rattle.forms.specs.Form.{hasForm}
@@ -82,6 +83,11 @@ abbrev pub writtenSaid : TargetWritten → Said (Place × Option ℕ)
 writtenSaid (Wrote p) = ok (p, none)
 writtenSaid (WrotePage p l) = ok (p, some (l .0))
 writtenSaid (NotWritten r) = no (numberOf r)
+
+-- a target's word by value, put by a writer into a run: what the writer says of it with the low bits beside it, or what it says of the refusal
+abbrev pub putTo : (Said (List ℕ) → Said Place × List ℕ) → Said (Words × Option ℕ) → Said (Place × Option ℕ) × List ℕ
+putTo put (ok (f, l)) = carried l (put (ok (listOf f)))
+putTo put (no n) = carried none (put (no n))
 
 -- ---- reading
 

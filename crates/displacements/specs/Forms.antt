@@ -41,3 +41,7 @@ fieldIn f w = w / 2 ^ f .at % 2 ^ (f .bits - f .low) * 2 ^ f .low + w / 2 ^ 29 %
 -- a word whose field is clear, with a number below 2 ^ bits in the field
 abbrev pub putIn : Form → ℕ → ℕ → ℕ
 putIn f w v = w + v / 2 ^ f .low * 2 ^ f .at + v % 2 ^ f .low * 2 ^ 29
+
+-- a word with nothing in its field, every other bit as it was
+abbrev pub clearIn : Form → ℕ → ℕ
+clearIn f w = w - putIn f 0 (fieldIn f w)

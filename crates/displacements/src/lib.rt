@@ -14,8 +14,8 @@ ghost use Rattle.words.specs.Answer.{said, made};
 ghost use Rattle.words.specs.Listed.{packed};
 ghost use Rattle.words.specs.Place.{addressOf};
 ghost use Rattle.writers.specs.Put.{putOf};
-ghost use Rattle.displacements.specs.Forms.{formOf, fieldIn, putIn};
-ghost use Rattle.displacements.specs.Answer.{placeSaid, dispSaid, pageOf, between, targetSaid, lowOf, carrying, carried, wordSaid, writtenSaid, readSaid, distanceSaid};
+ghost use Rattle.displacements.specs.Forms.{formOf, fieldIn, putIn, clearIn};
+ghost use Rattle.displacements.specs.Answer.{placeSaid, dispSaid, pageOf, between, targetSaid, lowOf, carrying, carried, wordSaid, writtenSaid, putTo, readSaid, distanceSaid};
 ghost use Rattle.displacements.specs.Private.{offsetIn, Sound};
 
 // A format: distances in steps of 2 ^ scale bytes, in a field of `bits` bits, of which the low ones, `low` in number, stand at bit 29 of the
@@ -94,6 +94,25 @@ fn put_field(f: Form, base: Opc, v: u64) -> Opc
     let b = base.0 as u64;
     let w = (b + ((v >> f.low) << f.at) + (words::low_bits(v, f.low) << 29)) as u32;
     Opc(w)
+}
+
+// A word with its field clear.
+fn clear_field(f: Form, w: Opc) -> Opc
+    requires { ⌜ Sound f ⌝ }
+    ensures { λ r. ⌜ r .0 ≡ clearIn f (w .0) ⌝ }
+{
+    let held = put_field(f, Opc(0), field_of(f, w));
+    Opc(w.0 - held.0)
+}
+
+// The same at any format. From 6 on there is none, and no field.
+pub fn clear_disp(format: u32, word: Opc) -> Opc
+    ensures { λ r. ⌜ r .0 ≡ clearIn (formOf format) (word .0) ⌝ }
+{
+    if 5 < format {
+        return word;
+    }
+    clear_field(form_of(format), word)
 }
 
 // The word of a base and a distance at a format: 6, 4, 5.
@@ -205,6 +224,17 @@ fn wrote_page(w: Written, low: Low12) -> TargetWritten
     }
 }
 
+// A target's word by value, or its refusal, at a place.
+pub fn put_target(words: &mut [u32], at: Place, m: TargetWord) -> TargetWritten
+    ensures { λ r. ⌜ (writtenSaid r, now (words .exit)) ≡ putTo (putOf (now (words .entry)) at) (wordSaid m) ⌝ }
+{
+    match m {
+        TargetWord::Word(w) => wrote(writers::put(words, at, Worded::Made(w))),
+        TargetWord::PageWord(w, low) => wrote_page(writers::put(words, at, Worded::Made(w)), low),
+        TargetWord::NoWord(r) => wrote(writers::put(words, at, Worded::Not(r))),
+    }
+}
+
 // The word of a base and a target at a place, which has the address of the instruction: 15, 7, 11, 6, 4, 5, 8. An ADRP never gives 4, and its answer
 // has the target's low bits.
 pub fn emit_disp_target(
@@ -216,11 +246,11 @@ pub fn emit_disp_target(
 ) -> TargetWritten
     ensures { λ r. ⌜ (writtenSaid r, now (words .exit)) ≡ carried (lowOf format (target .0)) (putOf (now (words .entry)) at (targetSaid format (base .0) (target .0) (addressOf at))) ⌝ }
 {
-    match disp_target_word(format, base, target, words::address_of(at)) {
-        TargetWord::Word(w) => wrote(writers::put(words, at, Worded::Made(w))),
-        TargetWord::PageWord(w, low) => wrote_page(writers::put(words, at, Worded::Made(w)), low),
-        TargetWord::NoWord(r) => wrote(writers::put(words, at, Worded::Not(r))),
-    }
+    put_target(
+        words,
+        at,
+        disp_target_word(format, base, target, words::address_of(at)),
+    )
 }
 
 // The field, times the step, with its top bit copied up to bit 63.

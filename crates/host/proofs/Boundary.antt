@@ -52,7 +52,7 @@ use Rattle.host.proofs.vaimalofo_read_displacement.Reads as read-displa
 abbrev pub Refusals : ℕ → Type 0
 Refusals n = (refusalIn n ≡ 0) ⊎ IsNumber (refusalIn n)
 
-known : (n : ℕ) (a : Said ℤ) → Reads n a → Refusals n
+pub known : (n : ℕ) (a : Said ℤ) → Reads n a → Refusals n
 known n (ok v) r = inl (r .0)
 known n (no m) r = inr (subst IsNumber (sym (r .1)) (r .0))
 
@@ -60,7 +60,7 @@ known n (no m) r = inr (subst IsNumber (sym (r .1)) (r .0))
 abbrev pub Instruction : (word format : ℕ) → Type 0
 Instruction word format = (k : Lfts 0) (answer : ℕ) → has-form.Post k (format, (word, tt)) answer (format, (word, tt)) → (refusalIn answer ≡ 0) × (valueIn answer ≡ pos 1)
 
-formed : (word format base : ℕ) (distance : ℤ) → dispSaid format base distance ≡ ok (word ∷ []) → Instruction word format
+pub formed : (word format base : ℕ) (distance : ℤ) → dispSaid format base distance ≡ ok (word ∷ []) → Instruction word format
 formed word format base distance e k answer p =
     subst (λ (a : Said Bool). Reads answer (yesNo a)) (form-yes format base distance word e) (form-read format word answer p)
 
@@ -69,7 +69,7 @@ abbrev pub Read : (word format : ℕ) → ℤ → Type 0
 Read word format distance =
     (k : Lfts 0) (answer : ℕ) → read-displacement.Post k (word, (format, tt)) answer (word, (format, tt)) → (refusalIn answer ≡ 0) × (valueIn answer ≡ distance)
 
-reads-back : (word format base : ℕ) (distance : ℤ) → dispSaid format base distance ≡ ok (word ∷ []) → Read word format distance
+pub reads-back : (word format base : ℕ) (distance : ℤ) → dispSaid format base distance ≡ ok (word ∷ []) → Read word format distance
 reads-back word format base distance e k answer p =
     subst (Reads answer) (read-back format base distance word e) (distance-read word format answer p)
 
@@ -77,23 +77,23 @@ reads-back word format base distance e k answer p =
 
 module _ (l : List ℕ) (at : Place) (n : ℕ) (l′ : List ℕ) (x : Said (List ℕ)) (h : Sane x) where
   -- the words asked for are those that a host finds
-  found-to : (low : Option ℕ) → Low low → CalledTo l at n l′ low x → refusalIn n ≡ 0 → x ≡ ok (wordsFrom n (posOf at) l′)
+  pub found-to : (low : Option ℕ) → Low low → CalledTo l at n l′ low x → refusalIn n ≡ 0 → x ≡ ok (wordsFrom n (posOf at) l′)
   found-to low f e z =
       let s = stands-to l at n l′ low x f h e z in
       s .1 ∙ ap ok (sym (ap (λ (k : ℕ). wordsIn (slice (posOf at * 4) ((posOf at + k) * 4) l′)) (s .2 .count) ∙ ap wordsIn (s .2 .words) ∙ words-back (s .0)))
 
-  refusal-to : (low : Option ℕ) → Low low → CalledTo l at n l′ low x → Refusals n
+  pub refusal-to : (low : Option ℕ) → Low low → CalledTo l at n l′ low x → Refusals n
   refusal-to low f e = known n (countedTo at (carrying low (putBytesOf l at x .0))) (reads-to l at n l′ low x f h e)
 
   module _ (e : Called l at n l′ x) where
-    found : refusalIn n ≡ 0 → x ≡ ok (wordsFrom n (posOf at) l′)
+    pub found : refusalIn n ≡ 0 → x ≡ ok (wordsFrom n (posOf at) l′)
     found = found-to none low-none (plainly l at n l′ x e)
 
     -- one word
-    found-one : Alone x → refusalIn n ≡ 0 → x ≡ ok (wordAt n (posOf at) l′ ∷ [])
+    pub found-one : Alone x → refusalIn n ≡ 0 → x ≡ ok (wordAt n (posOf at) l′ ∷ [])
     found-one a z = alone-word x (wordsFrom n (posOf at) l′) a (found z)
 
-    refusal : Refusals n
+    pub refusal : Refusals n
     refusal = refusal-to none low-none (plainly l at n l′ x e)
 
 module _ (k : Lfts 1) (bytes bytes′ : RefT (List ℕ)) (base-address position answer : ℕ) where

@@ -166,7 +166,7 @@ pub displacement-sane : (n b : ℕ) (d : ℤ) → Sane (dispSaid n b d)
 displacement-sane n b d = one-sane (dispSaid n b d) (alone n b d) (numbered n b d)
 
 -- the encoder's numbers are 1 and 3
-number-sane : (w v k : ℕ) → Encoded w v (no k) → IsNumber k
+pub number-sane : (w v k : ℕ) → Encoded w v (no k) → IsNumber k
 number-sane w v k h = ⊎-elim (λ a. (Width, sym (a .0))) (λ b. (NoField, sym (b .0))) h
 
 pub word-sane : (operation w v rn rd : ℕ) (a : Said LogicalImm) → Encoded w v a → Sane (wordOf operation w rn rd a)

@@ -19,9 +19,8 @@ use Rattle.words.specs.declared.Written.{Written}
 use Rattle.words.proofs.Answers.{Short}
 use Rattle.writers.proofs.Writes.{Answer, bytes-says, bytes-no}
 use Rattle.displacements.specs.Answer.{targetSaid, lowOf, carrying, carried}
-use Rattle.displacements.specs.Private.{putTo}
 use Rattle.displacements.proofs.Targets.{put-target}
-use Rattle.host.specs.Number.{told, counted, hostOf, hostPut, countedTo, hostToOf, hostPutTo}
+use Rattle.host.specs.Number.{told, counted, hostOf, hostPut, countedTo, hostToOf, hostPutTo, hostTarget}
 use Rattle.host.specs.Private.{Near}
 
 -- words by value are four at most
@@ -63,9 +62,5 @@ counted-none at (no n) = refl
 pub hosted-none : (l : List ℕ) (at : Place) (x : Said (List ℕ)) {y : ℕ × List ℕ} → y ≡ hostPut l at x → y ≡ hostPutTo l at none x
 hosted-none l at x p = let z = putBytesOf l at x in p ∙ ap (λ (s : Said ℤ). (told s, z .1)) (counted-none at (z .0))
 
--- the number and the bytes of a target's word by value
-abbrev pub toHost : List ℕ → Place → Said (Words × Option ℕ) → ℕ × List ℕ
-toHost l at s = hostToOf at (putTo (putBytesOf l at) s)
-
-pub landed : (l : List ℕ) (at : Place) (n b t a : ℕ) → toHost l at (carrying (lowOf n t) (packed (targetSaid n b t a))) ≡ hostPutTo l at (lowOf n t) (targetSaid n b t a)
+pub landed : (l : List ℕ) (at : Place) (n b t a : ℕ) → hostTarget l at (carrying (lowOf n t) (packed (targetSaid n b t a))) ≡ hostPutTo l at (lowOf n t) (targetSaid n b t a)
 landed l at n b t a = ap (hostToOf at) (put-target (putBytesOf l at) (bytes-no l at) n b t a)

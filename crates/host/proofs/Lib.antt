@@ -3,4 +3,5 @@ pub mod Laws
 pub mod Reading
 pub mod Demands
 pub mod Boundary
+pub mod Decoding
 pub mod Determined

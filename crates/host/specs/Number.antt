@@ -1,7 +1,7 @@
 -- The one number that every entry of the host answers, and how it is read. Assumes nothing.
 use mathlib.Core.Path.{_≡_}
 use mathlib.Core.Bool.{Bool, cond}
-use mathlib.Core.List.{List}
+use mathlib.Core.List.{List, [], _∷_}
 use mathlib.Core.Option.{Option, some, none}
 use Prim.Native.Nat.{ℕ, _+_, _-_, _*_, _/_, _%_, _^_}
 use lib.IntN.{ℤ, pos}
@@ -14,10 +14,12 @@ use Rattle.words.specs.Said.{Said, ok, no}
 use Rattle.words.specs.Answer.{IsNumber}
 use Rattle.words.specs.Place.{posOf}
 use Rattle.words.specs.declared.Place.{Place}
+use Rattle.words.specs.declared.Words.{Words}
 use Rattle.writers.specs.Put.{wordsIn, putBytesOf}
 use Rattle.logical.specs.Answer.{Encoded}
 use Rattle.logical.specs.declared.LogicalImm.{LogicalImm}
-use Rattle.displacements.specs.Answer.{carried}
+use Rattle.logical_decoder.specs.Answer.{Decoded, Normal}
+use Rattle.displacements.specs.Answer.{carried, putTo}
 
 -- the value above the low byte, modulo 2 ^ 64; or a refusal's number, which is all of it
 abbrev pub told : Said ℤ → ℕ
@@ -66,6 +68,10 @@ hostToOf at (x, bs) = (told (countedTo at x), bs)
 abbrev pub hostPutTo : List ℕ → Place → Option ℕ → Said (List ℕ) → ℕ × List ℕ
 hostPutTo bs at l x = hostToOf at (carried l (putBytesOf bs at x))
 
+-- of a target's word by value, or its refusal
+abbrev pub hostTarget : List ℕ → Place → Said (Words × Option ℕ) → ℕ × List ℕ
+hostTarget bs at s = hostToOf at (putTo (putBytesOf bs at) s)
+
 -- as a host reads them from an answer x without a refusal: bits 8 to 15 how many words were written, bits 16 to 27 the low bits
 abbrev pub countIn : ℕ → ℕ
 countIn x = x / 2 ^ 8 % 2 ^ 8
@@ -96,6 +102,23 @@ fieldsIn x = record { n = byteIn 3 x; s = byteIn 2 x; r = byteIn 1 x; length = b
 -- P of what the encoder says of the low w bits of v (its promise allows one answer)
 abbrev pub ForFields : (w v : ℕ) → (Said LogicalImm → Type 0) → Type 0
 ForFields w v P = (a : Said LogicalImm) × Encoded w v a × P a
+
+-- P of what the normaliser says of fields (its promise allows one answer)
+abbrev pub ForNormal : (w n s r : ℕ) → (Said LogicalImm → Type 0) → Type 0
+ForNormal w n s r P = (a : Said LogicalImm) × Normal w n s r a × P a
+
+-- a mask of 64 bits as two words, the low one first
+abbrev pub maskWords : Said ℕ → Said (List ℕ)
+maskWords (ok m) = ok (m % 2 ^ 32 ∷ m / 2 ^ 32 ∷ [])
+maskWords (no n) = no n
+
+-- as a host reads it from the two words that the answer x says
+abbrev pub maskIn : ℕ → List ℕ → ℕ
+maskIn x bs = getD (wordsFrom x 0 bs) 0 0 + getD (wordsFrom x 0 bs) 1 0 * 2 ^ 32
+
+-- P of what the decoder says of fields (its promise allows one answer)
+abbrev pub ForMask : (w n s r : ℕ) → (Said ℕ → Type 0) → Type 0
+ForMask w n s r P = (a : Said ℕ) × Decoded w n s r a × P a
 
 -- of a test: 1 for yes, 0 for no
 abbrev pub yesNo : Said Bool → Said ℤ

@@ -7,6 +7,7 @@ use displacements::TargetWord;
 use forms::FormAnswer;
 use logical::LogicalAnswer;
 use logical::LogicalImm;
+use logical_decoder::MaskAnswer;
 use words::Address;
 use words::ByteDistance;
 use words::Opc;
@@ -18,7 +19,7 @@ use words::Words;
 use words::Written;
 ghost use mathlib.Core.Path.{_≡_};
 ghost use mathlib.Core.Option.{some};
-ghost use Prim.Native.Nat.{_≤_, _<_};
+ghost use Prim.Native.Nat.{_≤_};
 ghost use Rattle.words.specs.Said.{Said};
 ghost use Rattle.words.specs.Answer.{numberOf, said, made};
 ghost use Rattle.words.specs.Listed.{listOf, listed};
@@ -26,20 +27,20 @@ ghost use Rattle.words.specs.Place.{placeAt, addressOf};
 ghost use Rattle.logical_words.specs.Word.{ForWord};
 ghost use Rattle.moves.specs.Moves.{movSaid};
 ghost use Rattle.patchable_moves.specs.Patchable.{patchSaid};
-ghost use Rattle.displacements.specs.Answer.{dispSaid, targetSaid, lowOf, carrying, readSaid};
+ghost use Rattle.displacements.specs.Answer.{dispSaid, targetSaid, lowOf, carrying, wordSaid, readSaid};
 ghost use Rattle.forms.specs.Form.{formSaid};
-ghost use Rattle.host.specs.Number.{told, counted, hostPut, countedTo, hostPutTo, spelled, ForFields, yesNo};
+ghost use Rattle.host.specs.Number.{told, counted, hostPut, countedTo, hostPutTo, hostTarget, spelled, ForFields, ForNormal, maskWords, ForMask, yesNo};
 ghost use Rattle.host.specs.Private.{Near};
 
 // A refusal has no value.
-fn refused(r: Refusal) -> u64
+pub fn refused(r: Refusal) -> u64
     ensures { λ n. ⌜ n ≡ numberOf r ⌝ }
 {
     words::number(r) as u64
 }
 
 // The place of a base address and a position.
-fn place(base: u64, position: usize) -> Place
+pub fn place(base: u64, position: usize) -> Place
     ensures { λ r. ⌜ r ≡ placeAt base position ⌝ }
 {
     Place {
@@ -60,7 +61,7 @@ fn written(at: Place, w: Written) -> u64
 }
 
 // Words by value, from a place on.
-fn put(bytes: &mut [u8], base: u64, position: usize, m: Worded) -> u64
+pub fn put(bytes: &mut [u8], base: u64, position: usize, m: Worded) -> u64
     ensures { λ r. ⌜ (r, now (bytes .exit)) ≡ hostPut (now (bytes .entry)) (placeAt base position) (listed (made m)) ⌝ }
 {
     let at = place(base, position);
@@ -69,7 +70,7 @@ fn put(bytes: &mut [u8], base: u64, position: usize, m: Worded) -> u64
 
 // The same with the low bits of a target above the number of words.
 fn written_page(at: Place, w: Written, low: Low12) -> u64
-    requires { ⌜ Near at (said w) × (low .0 < 4096) ⌝ }
+    requires { ⌜ Near at (said w) ⌝ }
     ensures { λ n. ⌜ n ≡ told (countedTo at (carrying (some (low .0)) (said w))) ⌝ }
 {
     match w {
@@ -79,11 +80,21 @@ fn written_page(at: Place, w: Written, low: Low12) -> u64
 }
 
 fn put_page(bytes: &mut [u8], base: u64, position: usize, f: Words, low: Low12) -> u64
-    requires { ⌜ low .0 < 4096 ⌝ }
     ensures { λ r. ⌜ (r, now (bytes .exit)) ≡ hostPutTo (now (bytes .entry)) (placeAt base position) (some (low .0)) (Said.ok (listOf f)) ⌝ }
 {
     let at = place(base, position);
     written_page(at, writers::put_bytes(bytes, at, Worded::Made(f)), low)
+}
+
+// A target's word by value, or its refusal, from a place on.
+pub fn put_target(bytes: &mut [u8], base: u64, position: usize, m: TargetWord) -> u64
+    ensures { λ r. ⌜ (r, now (bytes .exit)) ≡ hostTarget (now (bytes .entry)) (placeAt base position) (wordSaid m) ⌝ }
+{
+    match m {
+        TargetWord::Word(f) => put(bytes, base, position, Worded::Made(f)),
+        TargetWord::PageWord(f, low) => put_page(bytes, base, position, f, low),
+        TargetWord::NoWord(r) => put(bytes, base, position, Worded::Not(r)),
+    }
 }
 
 // A move of a value to a register: 15, 2, 8.
@@ -144,6 +155,41 @@ pub extern "C" fn vaimalofo_logical_fields(value: u64, width: u32) -> u64
     }
 }
 
+// The same of fields in normal form, R reduced by the element length: 1, 3.
+#[no_mangle]
+pub extern "C" fn vaimalofo_normalise_logical(n: u32, s: u32, r: u32, width: u32) -> u64
+    ensures { λ x. ⌜ ForNormal width n s r (λ a. x ≡ told (spelled a)) ⌝ }
+{
+    match logical_decoder::normalise(n, s, r, width) {
+        LogicalAnswer::Fields(f) => spelled(f),
+        LogicalAnswer::NoFields(why) => refused(why),
+    }
+}
+
+// A mask as two words, the low one first.
+fn mask_words(m: u64) -> Worded
+    ensures { λ r. ⌜ listed (made r) ≡ maskWords (Said.ok m) ⌝ }
+{
+    Worded::Made(words::two((m % 4294967296) as u32, (m / 4294967296) as u32))
+}
+
+// The mask that fields decode to, from the run's first byte on: 1, 3, 8.
+#[no_mangle]
+pub extern "C" fn vaimalofo_decode_logical(
+    bytes: &mut [u8],
+    n: u32,
+    s: u32,
+    r: u32,
+    width: u32,
+) -> u64
+    ensures { λ x. ⌜ ForMask width n s r (λ a. (x, now (bytes .exit)) ≡ hostPut (now (bytes .entry)) (placeAt 0 0) (maskWords a)) ⌝ }
+{
+    match logical_decoder::decode_logical_imm(n, s, r, width) {
+        MaskAnswer::Mask(m) => put(bytes, 0, 0, mask_words(m)),
+        MaskAnswer::NoMask(why) => put(bytes, 0, 0, Worded::Not(why)),
+    }
+}
+
 // The logical word of a value: 15, 7, 1, 2, 3, 8.
 #[no_mangle]
 pub extern "C" fn vaimalofo_logical_word(
@@ -200,15 +246,12 @@ pub extern "C" fn vaimalofo_displacement_to(
     ensures { λ r. ⌜ (r, now (bytes .exit)) ≡ hostPutTo (now (bytes .entry)) (placeAt «base_address» position) (lowOf format target) (targetSaid format base target (addressOf (placeAt «base_address» position))) ⌝ }
 {
     let address = words::address_of(place(base_address, position));
-    match displacements::disp_target_word(format, Opc(base), Address(target), address) {
-        TargetWord::Word(f) => put(bytes, base_address, position, Worded::Made(f)),
-        TargetWord::PageWord(f, low) => put_page(bytes, base_address, position, f, low),
-        TargetWord::NoWord(r) => put(bytes, base_address, position, Worded::Not(r)),
-    }
+    let word = displacements::disp_target_word(format, Opc(base), Address(target), address);
+    put_target(bytes, base_address, position, word)
 }
 
 // 1 above the low byte, or 0.
-fn yes(b: bool) -> u64
+pub fn yes(b: bool) -> u64
     ensures { λ n. ⌜ n ≡ told (yesNo (Said.ok b)) ⌝ }
 {
     if b { 256 } else { 0 }

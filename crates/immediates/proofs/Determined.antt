@@ -44,7 +44,7 @@ one-float N v a a' (inr s) (inr t) = one-answer (s .1) (t .1)
 pub one-mask : (v : ℕ) (a a' : Said ℕ) → MaskSays v a → MaskSays v a' → a ≡ a'
 one-mask = one-said ByteMask (readMask 8) (mask-back 8)
 
-one-test : (f : ℕ → ℕ) (x : ℕ) (r s : Bool) → Tests f x r → Tests f x s → r ≡ s
+pub one-test : (f : ℕ → ℕ) (x : ℕ) (r s : Bool) → Tests f x r → Tests f x s → r ≡ s
 unfolding Tests
 one-test f x true true p q = refl
 one-test f x true false p q = absurd (q (p .0) (p .1) (p .2))

@@ -15,9 +15,8 @@ written-page-requires : tie.Need-written-page-requires
 written-page-requires c κs =
     let p = c .before .before in
     let at = p .before .before in
-    let start = at .before .before in
-    let a = start .args in
-    (near (a .bytes .now) (at .place .result) (Made (a .f)) (p .put-bytes .result) _ (p .put-bytes .ensures), start .pre)
+    let a = at .before .before .args in
+    near (a .bytes .now) (at .place .result) (Made (a .f)) (p .put-bytes .result) _ (p .put-bytes .ensures)
 
 returns : tie.Need-returns
 returns c =

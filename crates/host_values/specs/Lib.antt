@@ -1,0 +1,2 @@
+-- What the entries on values say.
+pub mod Values

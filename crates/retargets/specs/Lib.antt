@@ -1,0 +1,2 @@
+-- What a retarget of a word already written says.
+pub mod Retarget
