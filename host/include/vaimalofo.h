@@ -9,7 +9,8 @@
  *
  * Every entry answers one 64-bit number. Its low byte is a refusal's number, 0 where nothing was refused; the bits above it, read as
  * signed, are the value, 0 with a refusal. Any numbers may be asked. With a refusal no byte of the run has changed; else the words
- * asked for stand from the position on, and every other byte is as before.
+ * asked for stand from the position on (those of vaimalofo_decode_logical, which takes none, from the run's start), and every other byte
+ * is as before.
  */
 #ifndef VAIMALOFO_H
 #define VAIMALOFO_H
@@ -25,13 +26,13 @@ extern "C" {
 enum {
     VAIMALOFO_WIDTH = 1,    /* the width or register size is not one that the entry names */
     VAIMALOFO_REGISTER = 2, /* a register number above 30 (moves) or above 31 (logical words) */
-    VAIMALOFO_NO_FIELD = 3, /* no field spells the value */
+    VAIMALOFO_NO_FIELD = 3, /* no field spells the value, or the fields are not legal */
     VAIMALOFO_STEP = 4,     /* the distance is not a multiple of the format's step */
     VAIMALOFO_RANGE = 5,    /* the distance is outside the format's range */
     VAIMALOFO_TAKEN = 6,    /* the base word already has a bit set in the field */
     VAIMALOFO_UNKNOWN = 7,  /* an unknown format or operation number */
-    VAIMALOFO_NO_ROOM = 8,  /* the words do not fit from the position on, or the position lies past the end */
-    VAIMALOFO_WRONG_FORM = 11, /* the base word is not an instruction of this format */
+    VAIMALOFO_NO_ROOM = 8,  /* the words do not fit from the position on, the position lies past the end, or no whole word stands there */
+    VAIMALOFO_WRONG_FORM = 11, /* the base word, or the word at the position, is not an instruction of this format */
     VAIMALOFO_UNALIGNED = 15   /* the base address is not a multiple of 4 */
 };
 
@@ -69,29 +70,36 @@ static inline size_t vaimalofo_words(uint64_t answer) {
     return (size_t)(answer >> 8 & 0xFF);
 }
 
-/* Of vaimalofo_displacement_to, without a refusal: for ADRP the low 12 bits of the target, 0 at the other formats. */
+/* Of vaimalofo_displacement_to and vaimalofo_retarget_to, without a refusal: for ADRP the low 12 bits of the target, 0 at the other formats. */
 static inline uint32_t vaimalofo_low12(uint64_t answer) {
     return (uint32_t)(answer >> 16 & 0xFFF);
 }
 
-/* Of vaimalofo_logical_fields, without a refusal: N, 1 only for an element of 64 bits. */
+/* Of vaimalofo_logical_fields and vaimalofo_normalise_logical, without a refusal: N, 1 only for an element of 64 bits. */
 static inline uint32_t vaimalofo_n(uint64_t answer) {
     return (uint32_t)(answer >> 24 & 0xFF);
 }
 
-/* Of vaimalofo_logical_fields, without a refusal: S, the length of the run less 1, below a prefix that tells the element's length. */
+/* Of the same two, without a refusal: S, the length of the run less 1, below a prefix that tells the element's length. */
 static inline uint32_t vaimalofo_s(uint64_t answer) {
     return (uint32_t)(answer >> 16 & 0xFF);
 }
 
-/* Of vaimalofo_logical_fields, without a refusal: R, how far the run is turned to the right, below the element's length. */
+/* Of the same two, without a refusal: R, how far the run is turned to the right, below the element's length. */
 static inline uint32_t vaimalofo_r(uint64_t answer) {
     return (uint32_t)(answer >> 8 & 0xFF);
 }
 
-/* Of vaimalofo_logical_fields, without a refusal: the element's length in bits, 2, 4, 8, 16, 32 or 64. The value repeats every so many bits. */
+/* Of the same two, without a refusal: the element's length in bits, 2, 4, 8, 16, 32 or 64. The value repeats every so many bits. */
 static inline uint32_t vaimalofo_element_length(uint64_t answer) {
     return (uint32_t)(answer >> 32 & 0xFF);
+}
+
+/* The mask that vaimalofo_decode_logical has written at the start of a run: 8 bytes, low byte first. */
+static inline uint64_t vaimalofo_mask(const uint8_t *bytes) {
+    uint64_t mask = 0;
+    for (int i = 7; i >= 0; i--) mask = mask << 8 | bytes[i];
+    return mask;
 }
 
 /* A move of a value to a register, 1 to 4 words. Order 15, 2, 8. Value: the number of words. */
@@ -108,6 +116,15 @@ uint64_t vaimalofo_patchable_move(uint8_t *bytes, size_t length, uint64_t base_a
  * WARNING: before it had the length, nothing stood above N. R, S and N are where they were, but a host that takes N as value >> 16 now gets
  * the length with it, and must mask it: value >> 16 & 0xFF. */
 uint64_t vaimalofo_logical_fields(uint64_t value, uint32_t width);
+
+/* The mask that the fields N, S and R of a logical immediate spell at width 32 or 64, as Arm decodes them, written at the run's start as two
+ * words, the low one first: vaimalofo_mask reads them. At width 32 the high one is 0. The fields are not legal where Arm leaves them
+ * undefined, where N is 1 at width 32, and where one of them is too great for its 1, 6 and 6 bits. Order 1, 3, 8. Value: the number of
+ * words, 2. */
+uint64_t vaimalofo_decode_logical(uint8_t *bytes, size_t length, uint32_t n, uint32_t s, uint32_t r, uint32_t width);
+
+/* The fields that vaimalofo_logical_fields gives for the mask of these: R is then below the element's length. Order 1, 3. Value: as there. */
+uint64_t vaimalofo_normalise_logical(uint32_t n, uint32_t s, uint32_t r, uint32_t width);
 
 /* AND, ORR, EOR or ANDS with an immediate. Order 15, 7, 1, 2, 3, 8. Value: the number of words, 1. */
 uint64_t vaimalofo_logical_word(uint8_t *bytes, size_t length, uint64_t base_address, size_t position,
@@ -127,11 +144,46 @@ uint64_t vaimalofo_displacement(uint8_t *bytes, size_t length, uint64_t base_add
 uint64_t vaimalofo_displacement_to(uint8_t *bytes, size_t length, uint64_t base_address, size_t position,
                                    uint32_t format, uint32_t base, uint64_t target);
 
+/* Another distance in the word that stands at the position: the format's field of it is cleared, whatever it holds, and takes the distance;
+ * every other bit stays. The word is an instruction of the format. Order 15, 7, 8, 11, 4, 5; 8 where no whole word stands at the position.
+ * Value: the number of words, 1. */
+uint64_t vaimalofo_retarget(uint8_t *bytes, size_t length, uint64_t base_address, size_t position, uint32_t format,
+                            int64_t distance);
+
+/* The same to a target, which counts as at vaimalofo_displacement_to: for ADRP it gives the target's page and never 4. Order 15, 7, 8, 11, 4,
+ * 5. Value: the number of words, 1, and for ADRP 256 times the low 12 bits of the target for the ADD that follows, whose word stays as it
+ * is. */
+uint64_t vaimalofo_retarget_to(uint8_t *bytes, size_t length, uint64_t base_address, size_t position, uint32_t format,
+                               uint64_t target);
+
 /* Whether a word has the fixed bits of an instruction of a format, whatever its field holds. Order 7. Value: 1 or 0. */
 uint64_t vaimalofo_has_form(uint32_t format, uint32_t word);
 
 /* The distance that any word spells at a format. Order 7. Value: the distance in bytes. */
 uint64_t vaimalofo_read_displacement(uint32_t word, uint32_t format);
+
+/* The 8-bit float that spells a value, given by its bits, at width 16, 32 or 64; bits above the width are ignored. Order 1, 3. Value: the 8
+ * bits, 0 to 255. */
+uint64_t vaimalofo_float_imm8(uint64_t value, uint32_t width);
+
+/* Whether an 8-bit float spells a value at width 16, 32 or 64; bits above the width are ignored. Order 1. Value: 1 or 0. */
+uint64_t vaimalofo_is_float_imm8(uint64_t value, uint32_t width);
+
+/* The byte mask of a value whose bytes are 00 or FF. Order 3. Value: the 8 bits, bit i set where byte i is FF; byte 0 is the low one. */
+uint64_t vaimalofo_byte_mask_imm8(uint64_t value);
+
+/* How many of the four halfwords of a value are 0. No refusal. Value: 0 to 4. */
+uint64_t vaimalofo_count_zero_half_words(uint64_t value);
+
+/* Whether a general register's number is below 31 or the high number given. No refusal. Value: 1 or 0. */
+uint64_t vaimalofo_check_gp_id(uint32_t id, uint32_t high);
+
+/* Whether a vector register's number is below 32. No refusal. Value: 1 or 0. */
+uint64_t vaimalofo_check_vec_id(uint32_t id);
+
+/* The condition field of a condition's number in asmkit's counting, where EQ is 2 and AL is 0: (cond - 2) mod 16, for every number. No
+ * refusal. Value: 0 to 15. */
+uint64_t vaimalofo_cond_field(uint32_t cond);
 
 #ifdef __cplusplus
 }

@@ -22,6 +22,7 @@ extern "C" {
         size: u32,
         register: u32,
     ) -> u64;
+    fn vaimalofo_count_zero_half_words(value: u64) -> u64;
     fn vaimalofo_logical_fields(value: u64, width: u32) -> u64;
     fn vaimalofo_logical_word(
         bytes: *mut u8,
@@ -34,6 +35,15 @@ extern "C" {
         rn: u32,
         rd: u32,
     ) -> u64;
+    fn vaimalofo_decode_logical(
+        bytes: *mut u8,
+        length: usize,
+        n: u32,
+        s: u32,
+        r: u32,
+        width: u32,
+    ) -> u64;
+    fn vaimalofo_normalise_logical(n: u32, s: u32, r: u32, width: u32) -> u64;
     fn vaimalofo_displacement(
         bytes: *mut u8,
         length: usize,
@@ -52,8 +62,30 @@ extern "C" {
         base: u32,
         target: u64,
     ) -> u64;
+    fn vaimalofo_retarget(
+        bytes: *mut u8,
+        length: usize,
+        base_address: u64,
+        position: usize,
+        format: u32,
+        distance: i64,
+    ) -> u64;
+    fn vaimalofo_retarget_to(
+        bytes: *mut u8,
+        length: usize,
+        base_address: u64,
+        position: usize,
+        format: u32,
+        target: u64,
+    ) -> u64;
     fn vaimalofo_has_form(format: u32, word: u32) -> u64;
     fn vaimalofo_read_displacement(word: u32, format: u32) -> u64;
+    fn vaimalofo_float_imm8(value: u64, width: u32) -> u64;
+    fn vaimalofo_is_float_imm8(value: u64, width: u32) -> u64;
+    fn vaimalofo_byte_mask_imm8(value: u64) -> u64;
+    fn vaimalofo_check_gp_id(id: u32, high: u32) -> u64;
+    fn vaimalofo_check_vec_id(id: u32) -> u64;
+    fn vaimalofo_cond_field(cond: u32) -> u64;
 }
 
 /// What a call that writes begins with: the slice's pointer and length, the base address (the origin) and the position.
@@ -77,6 +109,12 @@ pub fn patchable_mov(bytes: &mut [u8], at: Place, value: u64, size: u32, registe
 }
 
 #[inline]
+pub fn count_zero_half_words(value: u64) -> u64 {
+    // SAFETY: numbers alone.
+    unsafe { vaimalofo_count_zero_half_words(value) }
+}
+
+#[inline]
 pub fn logical_fields(value: u64, width: u32) -> u64 {
     // SAFETY: numbers alone.
     unsafe { vaimalofo_logical_fields(value, width) }
@@ -97,6 +135,19 @@ pub fn logical_word(
     }
 }
 
+/// The bytes are for the mask.
+#[inline]
+pub fn decode_logical(bytes: &mut [u8; 8], n: u32, s: u32, r: u32, width: u32) -> u64 {
+    // SAFETY: pointer and length are the array's, lent for the call.
+    unsafe { vaimalofo_decode_logical(bytes.as_mut_ptr(), bytes.len(), n, s, r, width) }
+}
+
+#[inline]
+pub fn normalise_logical(n: u32, s: u32, r: u32, width: u32) -> u64 {
+    // SAFETY: numbers alone.
+    unsafe { vaimalofo_normalise_logical(n, s, r, width) }
+}
+
 #[inline]
 pub fn displacement(bytes: &mut [u8], at: Place, format: u32, base: u32, distance: i64) -> u64 {
     let (start, length, origin, position) = lent(bytes, at);
@@ -112,6 +163,20 @@ pub fn displacement_to(bytes: &mut [u8], at: Place, format: u32, base: u32, targ
 }
 
 #[inline]
+pub fn retarget(bytes: &mut [u8], at: Place, format: u32, distance: i64) -> u64 {
+    let (start, length, origin, position) = lent(bytes, at);
+    // SAFETY: pointer and length are the slice's, lent for the call.
+    unsafe { vaimalofo_retarget(start, length, origin, position, format, distance) }
+}
+
+#[inline]
+pub fn retarget_to(bytes: &mut [u8], at: Place, format: u32, target: u64) -> u64 {
+    let (start, length, origin, position) = lent(bytes, at);
+    // SAFETY: pointer and length are the slice's, lent for the call.
+    unsafe { vaimalofo_retarget_to(start, length, origin, position, format, target) }
+}
+
+#[inline]
 pub fn has_form(format: u32, word: u32) -> u64 {
     // SAFETY: numbers alone.
     unsafe { vaimalofo_has_form(format, word) }
@@ -121,4 +186,40 @@ pub fn has_form(format: u32, word: u32) -> u64 {
 pub fn read_displacement(word: u32, format: u32) -> u64 {
     // SAFETY: numbers alone.
     unsafe { vaimalofo_read_displacement(word, format) }
+}
+
+#[inline]
+pub fn float_imm8(value: u64, width: u32) -> u64 {
+    // SAFETY: numbers alone.
+    unsafe { vaimalofo_float_imm8(value, width) }
+}
+
+#[inline]
+pub fn is_float_imm8(value: u64, width: u32) -> u64 {
+    // SAFETY: numbers alone.
+    unsafe { vaimalofo_is_float_imm8(value, width) }
+}
+
+#[inline]
+pub fn byte_mask_imm8(value: u64) -> u64 {
+    // SAFETY: numbers alone.
+    unsafe { vaimalofo_byte_mask_imm8(value) }
+}
+
+#[inline]
+pub fn check_gp_id(id: u32, high: u32) -> u64 {
+    // SAFETY: numbers alone.
+    unsafe { vaimalofo_check_gp_id(id, high) }
+}
+
+#[inline]
+pub fn check_vec_id(id: u32) -> u64 {
+    // SAFETY: numbers alone.
+    unsafe { vaimalofo_check_vec_id(id) }
+}
+
+#[inline]
+pub fn cond_field(cond: u32) -> u64 {
+    // SAFETY: numbers alone.
+    unsafe { vaimalofo_cond_field(cond) }
 }

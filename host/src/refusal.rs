@@ -1,7 +1,10 @@
-use std::error::Error;
-use std::fmt;
+//! The refusals and their numbers.
 
-/// Why a request was turned down. Nothing that was lent has then changed.
+use core::error::Error;
+use core::fmt;
+
+/// Why a request was turned down, by document 01's numbers. Nothing that was lent has then changed. The functions of
+/// [`raw`](crate::raw) answer it, and [`Error::refusal`](crate::Error::refusal) gives it of an error.
 ///
 /// It prints as its number and the event:
 ///
@@ -14,14 +17,16 @@ use std::fmt;
 ///     "refusal 4: the distance is not a multiple of the format's step"
 /// );
 /// ```
+// A later request of document 02 has numbers of its own.
 #[derive(Clone, Copy, Debug, PartialEq, Eq, Hash)]
+#[non_exhaustive]
 #[repr(u8)]
 pub enum Refusal {
     /// 1: the width or register size is not one that the entry names.
     Width = 1,
     /// 2: a register number above 30 (moves) or above 31 (logical words).
     Register = 2,
-    /// 3: no field spells the value.
+    /// 3: no field spells the value, or the fields are not legal.
     NoField = 3,
     /// 4: the distance is not a multiple of the format's step.
     Step = 4,
@@ -45,7 +50,14 @@ pub enum Refusal {
 
 impl Refusal {
     /// All of them, in the order of their numbers.
-    pub const ALL: [Refusal; 12] = [
+    ///
+    /// ```
+    /// use vaimalofo::Refusal;
+    ///
+    /// assert_eq!(Refusal::ALL.first(), Some(&Refusal::Width));
+    /// assert!(Refusal::ALL.iter().all(|one| Refusal::from_number(one.number()) == Some(*one)));
+    /// ```
+    pub const ALL: &'static [Refusal] = &[
         Refusal::Width,
         Refusal::Register,
         Refusal::NoField,
@@ -61,11 +73,22 @@ impl Refusal {
     ];
 
     /// The number that stands for it at the C entries.
+    ///
+    /// ```
+    /// assert_eq!(vaimalofo::Refusal::NoRoom.number(), 8);
+    /// ```
     pub const fn number(self) -> u8 {
         self as u8
     }
 
     /// The refusal of a number: 1 to 11, and 15. No other number is one's.
+    ///
+    /// ```
+    /// use vaimalofo::Refusal;
+    ///
+    /// assert_eq!(Refusal::from_number(15), Some(Refusal::Unaligned));
+    /// assert_eq!(Refusal::from_number(12), None);
+    /// ```
     pub const fn from_number(number: u8) -> Option<Refusal> {
         match number {
             1..=11 => Some(Refusal::ALL[number as usize - 1]),
@@ -81,7 +104,7 @@ impl Refusal {
             Refusal::Register => {
                 "the register number is above 30 (moves) or above 31 (logical words)"
             }
-            Refusal::NoField => "no field spells the value",
+            Refusal::NoField => "no field spells the value, or the fields are not legal",
             Refusal::Step => "the distance is not a multiple of the format's step",
             Refusal::Range => "the distance is outside the format's range",
             Refusal::Taken => "the base word already has a bit set in the field",

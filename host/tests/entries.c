@@ -13,15 +13,16 @@ static void same(const char *what, int64_t got, int64_t expected) {
     }
 }
 
-/* A run of `words` words and a tail, watched on both sides. */
+/* A run of `words` words and a tail, watched on both sides, with its bytes as they were before a call. */
 struct watched {
-    uint8_t all[64];
+    uint8_t all[64], before[64];
     uint8_t *run;
     size_t length;
 };
 
 static struct watched watch(struct watched *w, size_t words, size_t tail) {
     memset(w->all, 0xA5, sizeof w->all);
+    memset(w->before, 0xA5, sizeof w->before);
     w->run = w->all + 16;
     w->length = words * 4 + tail;
     return *w;
@@ -31,6 +32,12 @@ static uint32_t word_at(const uint8_t *at) {
     return (uint32_t)at[0] | (uint32_t)at[1] << 8 | (uint32_t)at[2] << 16 | (uint32_t)at[3] << 24;
 }
 
+/* Puts a word where it stands before a call. */
+static void stand(struct watched *w, size_t position, uint32_t word) {
+    for (size_t i = 0; i < 4; i++) w->run[position * 4 + i] = (uint8_t)(word >> 8 * i);
+    memcpy(w->before, w->all, sizeof w->all);
+}
+
 /* The answer is `words` words from the position on, and every other byte is as before. */
 static void wrote(const char *what, const struct watched *w, uint64_t answer, size_t position, size_t count, const uint32_t *words) {
     size_t start = 16 + position * 4;
@@ -38,7 +45,7 @@ static void wrote(const char *what, const struct watched *w, uint64_t answer, si
     same(what, (int64_t)vaimalofo_words(answer), (int64_t)count);
     same(what, vaimalofo_value(answer), (int64_t)count + 256 * (int64_t)vaimalofo_low12(answer));
     for (size_t i = 0; i < sizeof w->all; i++) {
-        if (i < start || i >= start + count * 4) same(what, w->all[i], 0xA5);
+        if (i < start || i >= start + count * 4) same(what, w->all[i], w->before[i]);
     }
     for (size_t i = 0; i < count; i++) same(what, word_at(w->all + start + i * 4), words[i]);
 }
@@ -46,7 +53,7 @@ static void wrote(const char *what, const struct watched *w, uint64_t answer, si
 static void refused(const char *what, const struct watched *w, uint64_t answer, unsigned refusal) {
     same(what, (int64_t)answer, (int64_t)refusal);
     same(what, vaimalofo_value(answer), 0);
-    for (size_t i = 0; i < sizeof w->all; i++) same(what, w->all[i], 0xA5);
+    for (size_t i = 0; i < sizeof w->all; i++) same(what, w->all[i], w->before[i]);
 }
 
 /* The greatest address that a word has. */
@@ -173,6 +180,95 @@ static void unaligned(uint64_t base) {
     refused("to 15, page", &w, vaimalofo_displacement_to(w.run, w.length, base, 0, 4, 0x90000000, base), refusal);
     refused("to 15, 7, 8", &w, vaimalofo_displacement_to(w.run, w.length, base, 9, 6, 0xFFFFFFFF, 1), refusal);
     refused("to 15, 6, 5, 8", &w, vaimalofo_displacement_to(w.run, w.length, base, 9, 0, 0x14000001, base + (UINT64_C(1) << 63)), refusal);
+    stand(&w, 0, 0x17FFFFFF);
+    refused("again 15", &w, vaimalofo_retarget(w.run, w.length, base, 0, 0, 4), refusal);
+    refused("again 15, 7, 8", &w, vaimalofo_retarget(w.run, w.length, base, 9, 6, 1), refusal);
+    refused("again 15, 11, 4, 5", &w, vaimalofo_retarget(w.run, w.length, base, 1, 0, INT64_MAX), refusal);
+    refused("again to 15", &w, vaimalofo_retarget_to(w.run, w.length, base, 0, 0, base), refusal);
+    refused("again to 15, 7, 8", &w, vaimalofo_retarget_to(w.run, w.length, base, 9, 6, 1), refusal);
+    refused("again to 15, 11, 5", &w, vaimalofo_retarget_to(w.run, w.length, base, 1, 0, base + (UINT64_C(1) << 63)), refusal);
+}
+
+/* A word of a format at a distance, its other bits those of the base. */
+static uint32_t displaced(uint32_t format, uint32_t base, int64_t distance) {
+    uint8_t word[4];
+    same("displaced", (int64_t)vaimalofo_displacement(word, 4, 0, 0, format, base, distance), 256);
+    return word_at(word);
+}
+
+/* At each format the ends of its range and what is around 0, from each to each, by distance and by target; every other bit stays. */
+static void again(uint64_t base) {
+    static const struct {
+        uint32_t base;
+        int64_t least, step;
+        uint64_t steps;
+    } formats[] = {
+        {0x94000000, -134217728, 4, 1 << 26}, {0xB500001F, -1048576, 4, 1 << 19}, {0xB7F8001F, -32768, 4, 1 << 14},
+        {0x1000001F, -1048576, 1, 1 << 21}, {0x9000001F, INT64_C(-4294967296), 4096, 1 << 21}, {0x9C00001F, -1048576, 4, 1 << 19},
+    };
+    struct watched w;
+    for (uint32_t k = 0; k < 6 * 25; k++) {
+        const uint32_t format = k / 25, word = formats[format].base;
+        const int64_t least = formats[format].least, step = formats[format].step;
+        const int64_t all[] = {least, -step, 0, step, least + (int64_t)(formats[format].steps - 1) * step};
+        const int64_t from = all[k % 5], to = all[k / 5 % 5];
+        const uint32_t old = displaced(format, word, from), new = displaced(format, word, to);
+        const uint64_t at = vaimalofo_address(base, 1), origin = format == 4 ? at & ~UINT64_C(0xFFF) : at;
+        watch(&w, 3, k % 4);
+        stand(&w, 1, old);
+        wrote("again", &w, vaimalofo_retarget(w.run, w.length, base, 1, format, to), 1, 1, &new);
+        wrote("again, back", &w, vaimalofo_retarget(w.run, w.length, base, 1, format, from), 1, 1, &old);
+        wrote("again to", &w, vaimalofo_retarget_to(w.run, w.length, base, 1, format, origin + (uint64_t)to), 1, 1, &new);
+        wrote("again to, back", &w, vaimalofo_retarget_to(w.run, w.length, base, 1, format, origin + (uint64_t)from), 1, 1, &old);
+        refused("again 5, less", &w, vaimalofo_retarget(w.run, w.length, base, 1, format, all[0] - step), VAIMALOFO_RANGE);
+        refused("again 5, more", &w, vaimalofo_retarget(w.run, w.length, base, 1, format, all[4] + step), VAIMALOFO_RANGE);
+    }
+}
+
+/* The refusals of both in their order, from a branch at position 0 and a word of no format at position 1, before a tail. */
+static void again_refused(uint64_t base) {
+    struct watched w;
+    const uint64_t at = base, far = UINT64_C(1) << 63;
+    for (size_t tail = 0; tail < 4; tail++) {
+        watch(&w, 2, tail);
+        stand(&w, 0, 0x17FFFFFF);
+        refused("again 7", &w, vaimalofo_retarget(w.run, w.length, base, 2, 6, 1), VAIMALOFO_UNKNOWN);
+        refused("again 8", &w, vaimalofo_retarget(w.run, w.length, base, 2, 0, 1), VAIMALOFO_NO_ROOM);
+        refused("again 8, last", &w, vaimalofo_retarget(w.run, w.length, base, SIZE_MAX, 0, 4), VAIMALOFO_NO_ROOM);
+        refused("again 8, around", &w, vaimalofo_retarget(w.run, w.length, base, SIZE_MAX / 4 + 1, 0, 4), VAIMALOFO_NO_ROOM);
+        refused("again 8, no word", &w, vaimalofo_retarget(w.run, tail, base, 0, 0, 4), VAIMALOFO_NO_ROOM);
+        refused("again 11", &w, vaimalofo_retarget(w.run, w.length, base, 1, 0, INT64_MAX), VAIMALOFO_WRONG_FORM);
+        refused("again 11, another", &w, vaimalofo_retarget(w.run, w.length, base, 0, 1, 4), VAIMALOFO_WRONG_FORM);
+        refused("again 4", &w, vaimalofo_retarget(w.run, w.length, base, 0, 0, INT64_MAX), VAIMALOFO_STEP);
+        refused("again 5", &w, vaimalofo_retarget(w.run, w.length, base, 0, 0, INT64_MIN), VAIMALOFO_RANGE);
+        refused("again to 7", &w, vaimalofo_retarget_to(w.run, w.length, base, 2, 6, at + 1), VAIMALOFO_UNKNOWN);
+        refused("again to 8", &w, vaimalofo_retarget_to(w.run, w.length, base, 2, 0, at + 1), VAIMALOFO_NO_ROOM);
+        refused("again to 8, last", &w, vaimalofo_retarget_to(w.run, w.length, base, SIZE_MAX, 0, at), VAIMALOFO_NO_ROOM);
+        refused("again to 8, no word", &w, vaimalofo_retarget_to(w.run, tail, base, 0, 0, at), VAIMALOFO_NO_ROOM);
+        refused("again to 11", &w, vaimalofo_retarget_to(w.run, w.length, base, 1, 0, at + far + 1), VAIMALOFO_WRONG_FORM);
+        refused("again to 4", &w, vaimalofo_retarget_to(w.run, w.length, base, 0, 0, at + far + 1), VAIMALOFO_STEP);
+        refused("again to 5", &w, vaimalofo_retarget_to(w.run, w.length, base, 0, 0, at + far), VAIMALOFO_RANGE);
+        stand(&w, 0, 0xF0FFFFE0);
+        refused("again page 4", &w, vaimalofo_retarget(w.run, w.length, base, 0, 4, 0x2004), VAIMALOFO_STEP);
+        refused("again page 5", &w, vaimalofo_retarget_to(w.run, w.length, base, 0, 4, at + far + 1), VAIMALOFO_RANGE);
+    }
+}
+
+/* An ADRP sent from another page to each place of the second page on. */
+static void again_pages(void) {
+    struct watched w;
+    const uint32_t page[] = {0xD0000005};
+    for (uint32_t low = 0; low < 4096; low++) {
+        uint64_t base = 0x1FF8 - low / 4 * 4;
+        watch(&w, 2, low % 4);
+        stand(&w, 1, 0xF0FFFFE5);
+        uint64_t answer = vaimalofo_retarget_to(w.run, w.length, base, 1, VAIMALOFO_ADRP_21, 0x3000 + low);
+        wrote("again inside a page", &w, answer, 1, 1, page);
+        same("again low bits", vaimalofo_low12(answer), low);
+    }
+    watch(&w, 2, 1);
+    stand(&w, 1, 0x70FFFFE5);
+    same("again no low bits", (int64_t)vaimalofo_retarget_to(w.run, w.length, 0, 1, VAIMALOFO_ADR_21, 0x1003), 256);
 }
 
 /* Each element length at both widths, with N, S and R where they stood before the length; and a refusal, which has none of them. */
@@ -215,6 +311,123 @@ static void fields(void) {
     same("fields 1", (int64_t)vaimalofo_logical_fields(5, 16), VAIMALOFO_WIDTH);
 }
 
+/* Fields into masks, in runs with and without room; and what is no field, whatever else is wrong. */
+static void decoded(void) {
+    static const struct {
+        uint32_t n, s, r, width;
+        uint64_t mask;
+    } cases[] = {
+        {1, 7, 0, 64, 0xFF},       {0, 60, 1, 64, 0xAAAAAAAAAAAAAAAA}, {1, 1, 1, 64, 0x8000000000000001}, {0, 7, 0, 64, 0xFF000000FF},
+        {0, 60, 5, 32, 0xAAAAAAAA}, {0, 39, 28, 64, 0x0FF00FF00FF00FF0}, {0, 7, 0, 32, 0xFF}, {1, 62, 63, 64, 0xFFFFFFFFFFFFFFFE},
+    };
+    static const uint32_t wrong[][4] = {{0, 62, 0, 64}, {0, 63, 0, 64}, {0, 61, 0, 32}, {0, 31, 9, 64}, {1, 63, 0, 64}, {1, 7, 0, 32},
+                                        {2, 7, 0, 64}, {0, 64, 0, 64}, {0, 7, 64, 32}, {UINT32_MAX, 7, 0, 64}, {0, 7, UINT32_MAX, 64}};
+    struct watched w;
+    for (size_t i = 0; i < 8 * 12; i++) {
+        uint32_t n = cases[i / 12].n, s = cases[i / 12].s, r = cases[i / 12].r, width = cases[i / 12].width;
+        const uint32_t words[] = {(uint32_t)cases[i / 12].mask, (uint32_t)(cases[i / 12].mask >> 32)};
+        watch(&w, 2, i % 12);
+        wrote("decode", &w, vaimalofo_decode_logical(w.run, w.length, n, s, r, width), 0, 2, words);
+        same("decode, mask", (int64_t)vaimalofo_mask(w.run), (int64_t)cases[i / 12].mask);
+        watch(&w, 0, i % 8);
+        refused("decode 8", &w, vaimalofo_decode_logical(w.run, w.length, n, s, r, width), VAIMALOFO_NO_ROOM);
+        refused("decode 1", &w, vaimalofo_decode_logical(w.run, w.length, n, 64, r, width / 2 * 3), VAIMALOFO_WIDTH);
+    }
+    for (size_t i = 0; i < sizeof wrong / sizeof *wrong; i++) {
+        const uint32_t *f = wrong[i];
+        watch(&w, i % 4, 0);
+        refused("decode 3", &w, vaimalofo_decode_logical(w.run, w.length, f[0], f[1], f[2], f[3]), VAIMALOFO_NO_FIELD);
+        same("normalise 3", (int64_t)vaimalofo_normalise_logical(f[0], f[1], f[2], f[3]), VAIMALOFO_NO_FIELD);
+        same("normalise 1", (int64_t)vaimalofo_normalise_logical(f[0], f[1], f[2], 16), VAIMALOFO_WIDTH);
+    }
+}
+
+/* Document 01's example; and of all fields the normal ones are those of their mask, which decode to it again. */
+static void normalised(void) {
+    const uint64_t example = vaimalofo_normalise_logical(0, 60, 5, 64);
+    same("normalise, n", vaimalofo_n(example), 0);
+    same("normalise, s", vaimalofo_s(example), 60);
+    same("normalise, r", vaimalofo_r(example), 1);
+    same("normalise, length", vaimalofo_element_length(example), 2);
+    int legal = 0;
+    for (uint32_t i = 0; i < 2 * 2 * 64 * 64; i++) {
+        uint32_t n = i >> 12 & 1, s = i >> 6 & 63, r = i & 63, width = i >> 13 ? 32 : 64;
+        uint8_t mask[8], back[8];
+        uint64_t decoded = vaimalofo_decode_logical(mask, 8, n, s, r, width), normal = vaimalofo_normalise_logical(n, s, r, width);
+        same("normalise, refusal", vaimalofo_refusal(normal), vaimalofo_refusal(decoded));
+        if (vaimalofo_refusal(decoded) != 0) continue;
+        legal++;
+        same("normalise", (int64_t)normal, (int64_t)vaimalofo_logical_fields(vaimalofo_mask(mask), width));
+        same("normalise, r", vaimalofo_r(normal), r & (vaimalofo_element_length(normal) - 1));
+        decoded = vaimalofo_decode_logical(back, 8, vaimalofo_n(normal), vaimalofo_s(normal), vaimalofo_r(normal), width);
+        same("decode, words", (int64_t)vaimalofo_words(decoded), 2);
+        same("decode, back", memcmp(mask, back, 8), 0);
+    }
+    /* At width 32 the runs of 1 to e - 1 of each element length e up to 32, at 64 those of 64 too, each with every R. */
+    same("legal fields", legal, 64 * (1 + 3 + 7 + 15 + 31) * 2 + 64 * 63);
+}
+
+static void floats(void) {
+    static const struct {
+        uint64_t value;
+        uint32_t width;
+        int64_t imm8;
+    } cases[] = {
+        {0x3FF0000000000000, 64, 112}, {0x3F800000, 32, 112}, {0x3C00, 16, 112}, {0xFFFFFFFFFFFF3C00, 16, 112}, {0xDEADBEEF3F800000, 32, 112},
+        {0xC000000000000000, 64, 128}, {0x403F000000000000, 64, 63}, {0x3FC0000000000000, 64, 64}, {0xBFFF000000000000, 64, 255},
+        {0, 64, -1}, {0x8000000000000000, 64, -1}, {0x3FF0000000000001, 64, -1}, {0x3FF0800000000000, 64, -1}, {0x7FF0000000000000, 64, -1},
+        {0x4040000000000000, 64, -1}, {0x3F800001, 32, -1}, {0, 32, -1}, {0x3F800000, 64, -1}, {0x7C00, 16, -1}, {0x3C01, 16, -1},
+    };
+    static const uint32_t widths[] = {0, 8, 15, 17, 48, 65, 128, UINT32_MAX};
+    for (size_t i = 0; i < sizeof cases / sizeof *cases; i++) {
+        uint64_t answer = vaimalofo_float_imm8(cases[i].value, cases[i].width), yes = cases[i].imm8 >= 0;
+        same("float", (int64_t)answer, yes ? cases[i].imm8 * 256 : VAIMALOFO_NO_FIELD);
+        same("is float", (int64_t)vaimalofo_is_float_imm8(cases[i].value, cases[i].width), (int64_t)yes * 256);
+        same("float 1", (int64_t)vaimalofo_float_imm8(cases[i].value, widths[i % 8]), VAIMALOFO_WIDTH);
+        same("is float 1", (int64_t)vaimalofo_is_float_imm8(cases[i].value, widths[i % 8]), VAIMALOFO_WIDTH);
+    }
+    /* All halves: each of the 256 once. */
+    int seen[256] = {0}, found = 0;
+    for (uint64_t value = 0; value < 65536; value++) {
+        uint64_t answer = vaimalofo_float_imm8(value, 16);
+        same("is half", vaimalofo_value(vaimalofo_is_float_imm8(value, 16)), vaimalofo_refusal(answer) == 0);
+        if (vaimalofo_refusal(answer) == 0) found += !seen[vaimalofo_value(answer) & 255]++;
+    }
+    same("halves", found, 256);
+}
+
+/* All byte masks, each with one bit of each byte turned over. */
+static void byte_masks(void) {
+    same("mask", (int64_t)vaimalofo_byte_mask_imm8(0xFF000000000000FF), 129 * 256);
+    same("mask 3", (int64_t)vaimalofo_byte_mask_imm8(0xFF000001000000FF), VAIMALOFO_NO_FIELD);
+    for (int imm8 = 0; imm8 < 256; imm8++) {
+        uint64_t value = 0;
+        for (int i = 0; i < 8; i++) value |= (uint64_t)(imm8 >> i & 1 ? 0xFF : 0) << 8 * i;
+        same("masks", (int64_t)vaimalofo_byte_mask_imm8(value), imm8 * 256);
+        for (int bit = 0; bit < 64; bit++) same("masks 3", (int64_t)vaimalofo_byte_mask_imm8(value ^ UINT64_C(1) << bit), VAIMALOFO_NO_FIELD);
+    }
+}
+
+/* The entries that refuse nothing. */
+static void checks(void) {
+    same("halfwords of 0", (int64_t)vaimalofo_count_zero_half_words(0), 4 * 256);
+    same("halfwords of a low one", (int64_t)vaimalofo_count_zero_half_words(0xFFFF), 3 * 256);
+    same("halfwords across", (int64_t)vaimalofo_count_zero_half_words(0x0000800100000000), 3 * 256);
+    same("halfwords in turn", (int64_t)vaimalofo_count_zero_half_words(0x0001000000010000), 2 * 256);
+    same("halfwords, none", (int64_t)vaimalofo_count_zero_half_words(0x8000000100010080), 0);
+    for (uint32_t id = 0; id < 300; id++) {
+        same("gp, 31", (int64_t)vaimalofo_check_gp_id(id, 31), id <= 31 ? 256 : 0);
+        same("gp, 63", (int64_t)vaimalofo_check_gp_id(id, 63), id < 31 || id == 63 ? 256 : 0);
+        same("gp, 0", (int64_t)vaimalofo_check_gp_id(id, 0), id < 31 ? 256 : 0);
+        same("vec", (int64_t)vaimalofo_check_vec_id(id), id < 32 ? 256 : 0);
+        same("cond", (int64_t)vaimalofo_cond_field(id), (id + 14) % 16 * 256);
+    }
+    same("gp, greatest", (int64_t)vaimalofo_check_gp_id(UINT32_MAX, UINT32_MAX), 256);
+    same("gp, great", (int64_t)vaimalofo_check_gp_id(UINT32_MAX, 31), 0);
+    same("vec, great", (int64_t)vaimalofo_check_vec_id(0x80000000), 0);
+    same("cond, greatest", (int64_t)vaimalofo_cond_field(UINT32_MAX), 13 * 256);
+}
+
 static void without_a_run(void) {
     same("form, yes", vaimalofo_value(vaimalofo_has_form(VAIMALOFO_BRANCH_26, 0x17FFFFFF)), 1);
     same("form, no", (int64_t)vaimalofo_has_form(VAIMALOFO_ADR_21, 0x17FFFFFF), 0);
@@ -232,11 +445,19 @@ int main(void) {
         logical(bases[i]);
         distances(bases[i]);
         targets(bases[i]);
+        again(bases[i]);
+        again_refused(bases[i]);
         for (uint64_t off = 1; off < 4; off++) unaligned(bases[i] + off);
     }
     pages();
+    again_pages();
     addresses();
     fields();
+    decoded();
+    normalised();
+    floats();
+    byte_masks();
+    checks();
     without_a_run();
     puts(failures == 0 ? "the C entries answer as they should" : "the C entries do not answer as they should");
     return failures != 0;

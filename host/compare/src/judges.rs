@@ -12,10 +12,11 @@ use std::process::{Command, Stdio};
 use oracle::document::displacements::{page, FORMATS};
 use oracle::document::logical::masks;
 use oracle::lists::random::Random;
-use vaimalofo::{Address, ByteDistance, Logical, Place, Reached, Refusal, WordPos};
+use vaimalofo::{raw, Address, Place, Reached, Refusal, WordPos};
 
 use crate::parts::own_base;
-use crate::{at_zero, values};
+use crate::retargets::any_field;
+use crate::{at_zero, put, values, words};
 
 /// Lines that a script is given at a time.
 const BATCH: usize = 20_000;
@@ -85,7 +86,7 @@ fn place(random: &mut Random) -> Place {
 }
 
 fn word_at(run: &[u8], at: Place) -> u32 {
-    vaimalofo::words(run)[at.position.0]
+    words(run)[at.position.0]
 }
 
 /// `VALUE RD WORD..`: mixed values as moves, and every fourth as a patchable move, at 64 and 32 in turn.
@@ -98,13 +99,13 @@ fn moved(random: &mut Random, i: u64) -> String {
     let (value, rd) = (values::mixed(random, i / 4), random.below(31) as u32);
     let (mut run, at) = (RUN, place(random));
     let (left, end) = match i % 8 {
-        3 => (value, vaimalofo::patchable_mov(&mut run, at, value, 64, rd)),
-        7 => (value & 0xFFFF_FFFF, vaimalofo::patchable_mov(&mut run, at, value, 32, rd)),
-        _ => (value, vaimalofo::mov(&mut run, at, value, rd)),
+        3 => (value, raw::patchable_mov(&mut run, at, value, 64, rd)),
+        7 => (value & 0xFFFF_FFFF, raw::patchable_mov(&mut run, at, value, 32, rd)),
+        _ => (value, raw::mov(&mut run, at, value, rd)),
     };
     let mut line = format!("{left:x} {rd}");
     let end = end.expect("the register is below 31 and there is room");
-    for word in &vaimalofo::words(&run)[at.position.0..end.position.0] {
+    for word in &words(&run)[at.position.0..end.position.0] {
         write!(line, " {word:08x}").expect("a string can be written");
     }
     line + "\n"
@@ -133,15 +134,15 @@ fn logical(samples: usize) -> Vec<String> {
 fn logical_line(random: &mut Random, width: u32, value: u64) -> String {
     let [operation, rn, rd] = [4, 32, 32].map(|n| random.below(n) as u32);
     let (mut run, at) = (RUN, place(random));
-    let instruction = Logical { operation, width, rn, rd };
-    let word = match vaimalofo::logical_word(&mut run, at, instruction, value) {
+    let word = match raw::logical_word(&mut run, at, operation, value, width, rn, rd) {
         Ok(_) => format!("{:08x}", word_at(&run, at)),
         Err(_) => "no".to_string(),
     };
     format!("{operation} {width} {rn} {rd} {value:x} {word}\n")
 }
 
-/// `FORMAT BASE DISTANCE WORD`: the ends of each format, then distances in its range; by distance, or by the target that lies so far.
+/// `FORMAT BASE DISTANCE WORD`: the ends of each format, then distances in its range; by distance, or by the target that lies so far; from
+/// the base, or put into a word of it that has another distance.
 fn displacements(samples: usize) -> Vec<String> {
     let mut random = Random::new(6 << 48);
     let mut lines = Vec::new();
@@ -161,17 +162,20 @@ fn displacements(samples: usize) -> Vec<String> {
 fn displaced(random: &mut Random, format: usize, distance: i64) -> String {
     let (number, base) = (format as u32, own_base(format, random));
     let (mut run, at) = (RUN, place(random));
-    let target = Address(page(number, at.address().0).wrapping_add_signed(distance));
-    let answer = match random.below(2) {
-        0 => vaimalofo::displacement(&mut run, at, number, base, ByteDistance(distance)),
-        _ => vaimalofo::displacement_to(&mut run, at, number, base, target).map(|to| to.place),
+    let target = page(number, at.address().0).wrapping_add_signed(distance);
+    put(&mut run, at.position.0, &[any_field(format, base, random)]);
+    let answer = match random.below(4) {
+        0 => raw::displacement(&mut run, at, number, base, distance),
+        1 => raw::displacement_to(&mut run, at, number, base, target).map(|to| to.place),
+        2 => raw::retarget(&mut run, at, number, distance),
+        _ => raw::retarget_to(&mut run, at, number, target).map(|to| to.place),
     };
-    answer.expect("the distance is in range and the field is clear");
+    answer.expect("the distance is in range, and the field is clear or cleared");
     format!("{format} {base:08x} {distance} {:08x}\n", word_at(&run, at))
 }
 
 /// `ADDRESS BASE TARGET WORD`, of an ADRP with the low bits behind it, or `far`: every second an ADRP, to any place in a page, and else
-/// each format in turn; targets in range, and now and then up to 16 steps beyond it.
+/// each format in turn; targets in range, and now and then up to 16 steps beyond it. Half are put into a word that has another target.
 fn targets(samples: usize) -> Vec<String> {
     let mut random = Random::new(10 << 48);
     (0..samples).map(|i| targeted(&mut random, if i % 2 == 0 { 4 } else { i / 2 % 6 })).collect()
@@ -190,7 +194,12 @@ fn targeted(random: &mut Random, format: usize) -> String {
     let least = page(number, address).wrapping_add_signed(row.least);
     let inside = if format == 4 { random.below(4096) } else { 0 };
     let target = least.wrapping_add(steps.wrapping_mul(row.step as u64)).wrapping_add(inside);
-    let said = match vaimalofo::displacement_to(&mut run, at, number, base, Address(target)) {
+    put(&mut run, at.position.0, &[any_field(format, base, random)]);
+    let answer = match random.below(2) {
+        0 => raw::displacement_to(&mut run, at, number, base, target),
+        _ => raw::retarget_to(&mut run, at, number, target),
+    };
+    let said = match answer {
         Ok(Reached { low12: Some(low), .. }) => format!("{:08x} {low}", word_at(&run, at)),
         Ok(Reached { low12: None, .. }) => format!("{:08x}", word_at(&run, at)),
         Err(Refusal::Range) => "far".to_string(),
@@ -221,10 +230,9 @@ fn form_line(word: u32) -> String {
     let mut run = [0; 4];
     let mut said = String::new();
     for (format, row) in (0..).zip(&FORMATS) {
-        let step = ByteDistance(row.step);
-        let answer = vaimalofo::displacement(&mut run, at_zero(0), format, word, step);
+        let answer = raw::displacement(&mut run, at_zero(0), format, word, row.step);
         let form = answer != Err(Refusal::WrongForm);
-        assert_eq!(vaimalofo::has_form(format, word), Ok(form), "{word:08x} at format {format}");
+        assert_eq!(raw::has_form(format, word), Ok(form), "{word:08x} at format {format}");
         if form {
             write!(said, "{format}").expect("a string can be written");
         }

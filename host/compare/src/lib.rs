@@ -1,9 +1,12 @@
 //! The C entries, through the safe functions over them, beside the oracle: the Rust original and a plain model of document 01.
 
 pub mod calls;
+pub mod decoder;
 pub mod judges;
 pub mod library;
 pub mod parts;
+pub mod retargets;
+pub mod small;
 pub mod tally;
 pub mod values;
 pub mod work;
@@ -14,6 +17,12 @@ use vaimalofo::{Address, Place, WordPos};
 #[inline]
 pub const fn at_zero(position: usize) -> Place {
     Place { base: Address(0), position: WordPos(position) }
+}
+
+/// The whole words of a run of bytes.
+pub fn words(run: &[u8]) -> Vec<u32> {
+    let word = |four: &[u8]| u32::from_le_bytes([four[0], four[1], four[2], four[3]]);
+    run.chunks_exact(4).map(word).collect()
 }
 
 /// Words into a run of bytes at a word position, low byte first.

@@ -11,11 +11,14 @@ extern "C" {
 /// C's RTLD_NOW. Without RTLD_GLOBAL the symbols stay the library's own.
 const RTLD_NOW: c_int = 2;
 
+type Move = unsafe extern "C" fn(*mut u8, usize, u64, usize, u64, u32) -> u64;
+type LogicalFields = unsafe extern "C" fn(u64, u32) -> u64;
+
 /// The two entries that are timed, called by pointer.
 #[derive(Clone, Copy)]
 pub struct Library {
-    mov: unsafe extern "C" fn(*mut u8, usize, u64, usize, u64, u32) -> u64,
-    logical_fields: unsafe extern "C" fn(u64, u32) -> u64,
+    mov: Move,
+    logical_fields: LogicalFields,
 }
 
 impl Library {
@@ -27,9 +30,12 @@ impl Library {
     pub unsafe fn load(path: &str) -> Option<Library> {
         let path = CString::new(path).ok()?;
         let library = dlopen(path.as_ptr(), RTLD_NOW);
-        let (mov, logical_fields) =
-            (entry(library, c"vaimalofo_move")?, entry(library, c"vaimalofo_logical_fields")?);
-        Some(Library { mov: mem::transmute(mov), logical_fields: mem::transmute(logical_fields) })
+        let mov = entry(library, c"vaimalofo_move")?;
+        let logical_fields = entry(library, c"vaimalofo_logical_fields")?;
+        Some(Library {
+            mov: mem::transmute::<*mut c_void, Move>(mov),
+            logical_fields: mem::transmute::<*mut c_void, LogicalFields>(logical_fields),
+        })
     }
 
     /// How many words a move wrote at base address 0, above the refusal's number.

@@ -3,8 +3,11 @@
 use std::process::ExitCode;
 use std::time::Instant;
 
+use compare::decoder;
 use compare::judges;
 use compare::parts::{self, Slice};
+use compare::retargets;
+use compare::small;
 use compare::tally::Tally;
 use compare::work::{self, Part};
 use oracle::replay::classes::Class;
@@ -12,7 +15,8 @@ use oracle::replay::classes::Class;
 const USAGE: &str = "compare --short            a slice of everything, for the gate
 compare --full             everything: all 2^32 values, all distances, 100 million mixed values
   --slice K/N              of --full only the items that leave K when divided by N (N odd)
-  --only NAME              one part: fields, moves, bases, displacements, mixed, damaged, wrapping, unaligned
+  --only NAME              one part: fields, moves, bases, displacements, mixed, damaged, wrapping, unaligned, decoder, floats, singles,
+                           bytes, ids, retargets
   --threads T              (else as many as there are processors)
 compare --judges [N]       N samples of each kind for GNU as and ld, objdump and qemu-aarch64 (else 20000)";
 
@@ -56,17 +60,18 @@ fn options(mut words: impl Iterator<Item = String>) -> Option<Options> {
 
 /// The parts, at the scale asked for.
 fn all_parts(options: &Options) -> Vec<Part> {
-    let (values, distances, [mixed, damaged, wrapping, unaligned]) = match options.full {
+    let (values, distances, counts) = match options.full {
         true => {
-            let counts = [100_000_000, 100_000_000, 10_000_000, 10_000_000];
+            let counts = [100_000_000, 100_000_000, 10_000_000, 10_000_000, 10_000_000, 10_000_000];
             (options.slice, options.slice, counts.map(|count| count / options.slice.by))
         }
         false => (
             Slice { rest: 41, by: 257 },
             Slice { rest: 5, by: 17 },
-            [500_000, 1_000_000, 100_000, 200_000],
+            [500_000, 1_000_000, 100_000, 200_000, 200_000, 200_000],
         ),
     };
+    let [mixed, damaged, wrapping, unaligned, floats, bytes] = counts;
     vec![
         parts::fields_32(values),
         parts::moves_32(values),
@@ -76,6 +81,12 @@ fn all_parts(options: &Options) -> Vec<Part> {
         parts::damaged(damaged),
         parts::wrapping(wrapping),
         parts::unaligned(unaligned),
+        decoder::decoder(distances),
+        small::floats(floats),
+        small::singles(values),
+        small::bytes(bytes),
+        small::ids(values),
+        retargets::retargets(distances),
     ]
 }
 
@@ -97,6 +108,7 @@ fn what_the_rust_does(class: Class) -> &'static str {
         Class::PageTarget => "refuses an ADRP to a target inside a page",
         Class::Unaligned => "has no base address that it could refuse",
         Class::WrongForm => "places a distance in any base, or refuses one off the step",
+        Class::Untested => "encodes a float or a byte mask that it has not tested",
         Class::Added => "has no such entry, or cannot be asked this (no room, for one)",
         _ => "differs in a class that no C entry has",
     }

@@ -8,13 +8,13 @@ use oracle::replay::by_document;
 use oracle::replay::classes::Class;
 use oracle::replay::request::{entry::*, Request};
 use oracle::rust;
-use vaimalofo::{ByteDistance, Fields, Refusal};
+use vaimalofo::{raw, Fields, Refusal};
 
 use crate::calls::compare;
 use crate::tally::Tally;
 use crate::values;
 use crate::work::Part;
-use crate::{at_zero, put};
+use crate::{at_zero, put, words};
 
 /// The items that leave `rest` when their number is divided by `by`; `by` is odd, so that a slice has all low bits in it.
 #[derive(Clone, Copy)]
@@ -25,15 +25,15 @@ pub struct Slice {
 
 impl Slice {
     /// How many of the items below `all` are in the slice.
-    fn count(self, all: u64) -> u64 {
+    pub fn count(self, all: u64) -> u64 {
         (all + self.by - 1 - self.rest) / self.by
     }
 
-    fn item(self, i: u64) -> u64 {
+    pub fn item(self, i: u64) -> u64 {
         self.rest + i * self.by
     }
 
-    fn text(self) -> String {
+    pub fn text(self) -> String {
         match self.by {
             1 => "all".to_string(),
             by => format!("those that leave {} when divided by {by}, of", self.rest),
@@ -42,7 +42,7 @@ impl Slice {
 }
 
 /// A generator for one item of a part.
-fn random(part: u64, item: u64) -> Random {
+pub fn random(part: u64, item: u64) -> Random {
     Random::new((part << 48) + item)
 }
 
@@ -64,7 +64,7 @@ pub fn fields_32(slice: Slice) -> Part {
 /// The model's length is Arm's for its N and S. The Rust has none.
 fn fields_of(value: u64, tally: &mut Tally) {
     let numbers = |Fields { n, s, r, length }| [n, s, r, length];
-    let entry = vaimalofo::logical_fields(value, 32).map(numbers);
+    let entry = raw::logical_fields(value, 32).map(numbers);
     let document = logical::encode_logical_imm(value, 32);
     let original = rust::encode_logical_imm(value, 32);
     let agree = match (entry, document) {
@@ -100,7 +100,7 @@ fn move_of(value: u64, tally: &mut Tally) {
     let mut expected = RUN;
     put(&mut expected, position, &document);
     let mut run = RUN;
-    let answer = vaimalofo::mov(&mut run, at_zero(position), value, rd);
+    let answer = raw::mov(&mut run, at_zero(position), value, rd);
     if answer != Ok(at_zero(position + document.len())) || run != expected {
         return tally.fails(|| {
             format!("move of {value:x} to {rd}: {answer:?} {run:x?}, document 01 {document:x?}")
@@ -139,7 +139,7 @@ fn check_base(format: u32, base: u32, tally: &mut Tally) {
     let step = FORMATS[format as usize].step;
     let document = displacements::disp_word(format, base, step);
     let mut run = RUN;
-    let answer = vaimalofo::displacement(&mut run, at_zero(1), format, base, ByteDistance(step));
+    let answer = raw::displacement(&mut run, at_zero(1), format, base, step);
     let mut expected = RUN;
     if let Ok(word) = document {
         put(&mut expected, 1, &[word]);
@@ -162,7 +162,7 @@ fn check_base(format: u32, base: u32, tally: &mut Tally) {
 }
 
 fn check_form(format: u32, word: u32, tally: &mut Tally) {
-    let answer = vaimalofo::has_form(format, word);
+    let answer = raw::has_form(format, word);
     let document = displacements::has_form(format, word);
     match answer.map_err(number) == document {
         true => tally.alone += 1,
@@ -172,7 +172,7 @@ fn check_form(format: u32, word: u32, tally: &mut Tally) {
 }
 
 /// A refusal as the model gives it.
-fn number(refusal: Refusal) -> No {
+pub fn number(refusal: Refusal) -> No {
     No(refusal.number().into())
 }
 
@@ -203,12 +203,12 @@ fn span(format: usize) -> (i64, u64) {
 }
 
 /// How many distances are asked of all formats.
-fn distances() -> u64 {
+pub fn distances() -> u64 {
     (0..6).map(|format| span(format).1).sum()
 }
 
 /// Distances around the ends of each format's range and around 0: they are asked in every slice.
-fn ends() -> Vec<(usize, i64)> {
+pub fn ends() -> Vec<(usize, i64)> {
     let around = |(format, end, step)| (-4..=4).map(move |k: i64| (format, end + k * step));
     let rows = FORMATS.iter().enumerate();
     rows.flat_map(|(format, row)| [row.least, 0, row.greatest].map(|end| (format, end, row.step)))
@@ -239,7 +239,7 @@ pub fn displacements(slice: Slice) -> Part {
 }
 
 /// The format and the distance of an item.
-fn distance_of(mut item: u64) -> (usize, i64) {
+pub fn distance_of(mut item: u64) -> (usize, i64) {
     for (format, stride) in STRIDES.iter().enumerate() {
         let (first, count) = span(format);
         if item < count {
@@ -281,16 +281,15 @@ fn check_distance(format: usize, distance: i64, random: &mut Random, tally: &mut
     let target = target(format, distance, at, random);
     compare(&Request::writing(DISP_TARGET, &[number, base, target], 2, at), tail, tally);
     let mut run = [0; 4];
-    let by = ByteDistance(distance);
-    let word = match vaimalofo::displacement(&mut run, at_zero(0), number as u32, base as u32, by) {
-        Ok(_) => vaimalofo::words(&run)[0],
+    let word = match raw::displacement(&mut run, at_zero(0), number as u32, base as u32, distance) {
+        Ok(_) => words(&run)[0],
         Err(_) => random.value() as u32,
     };
     compare(&Request::new(READ_DISP, &[word.into(), number]), 0, tally);
 }
 
 /// The target that lies so far from a place; an ADRP's from its page, and half of these up to 1023 bytes on, so at any place of a page.
-fn target(format: usize, distance: i64, at: Place, random: &mut Random) -> u64 {
+pub fn target(format: usize, distance: i64, at: Place, random: &mut Random) -> u64 {
     let inside = if format == 4 { random.below(2) * random.below(1024) } else { 0 };
     let origin = displacements::page(format as u32, at.address());
     origin.wrapping_add_signed(distance).wrapping_add(inside)
@@ -331,13 +330,13 @@ fn mixed_item(item: u64, tally: &mut Tally) {
 pub fn damaged(count: u64) -> Part {
     Part {
         name: "damaged",
-        what: format!("{count} damaged calls of all entries: wrong widths, registers, formats, operations, positions, short runs"),
+        what: format!("{count} damaged calls of the entries of moves, logical immediates and displacements: wrong widths, registers, formats, operations, positions, short runs"),
         items: count,
         check: Box::new(damaged_item),
     }
 }
 
-/// The entries that write, and all.
+/// The entries that write new words, and with them those that find fields and read words.
 const WRITING: [u64; 5] = [MOVE, PATCHABLE_MOVE, LOGICAL_WORD, DISP_IMM, DISP_TARGET];
 const ENTRIES: [u64; 8] = [
     MOVE,
@@ -387,7 +386,7 @@ fn damage(entry: u64, kind: u64, r: &mut Random) -> (Request, usize) {
 }
 
 /// One of the numbers given, or one that is small, next to a power of two, or any of 32 bits.
-fn one_in_two(random: &mut Random, given: &[u64]) -> u64 {
+pub fn one_in_two(random: &mut Random, given: &[u64]) -> u64 {
     match random.below(2) {
         0 => random.one_of(given),
         _ => random.number(),
@@ -395,7 +394,7 @@ fn one_in_two(random: &mut Random, given: &[u64]) -> u64 {
 }
 
 /// A distance: the value, or a small one of either sign.
-fn near(value: u64, random: &mut Random) -> u64 {
+pub fn near(value: u64, random: &mut Random) -> u64 {
     match random.below(2) {
         0 => value,
         _ => (value as i64 >> random.below(64)) as u64,
@@ -404,12 +403,12 @@ fn near(value: u64, random: &mut Random) -> u64 {
 
 // ---- base addresses
 
-/// Each entry that writes where addresses wrap, and damaged calls of them.
+/// Each entry that writes new words where addresses wrap, and damaged calls of them.
 pub fn wrapping(count: u64) -> Part {
     let (all, ends) = (distances(), ends());
     Part {
         name: "wrapping",
-        what: format!("{count} times each entry that writes, and one of them damaged, at base addresses from 2^64 - 32 on, where addresses wrap"),
+        what: format!("{count} times each entry that writes new words, and one of them damaged, at base addresses from 2^64 - 32 on, where addresses wrap"),
         items: count,
         check: Box::new(move |i, tally| {
             let mut random = random(11, i);
@@ -445,18 +444,18 @@ fn wrapped(item: u64, (format, distance): (usize, i64), r: &mut Random) -> [(Req
 }
 
 /// A position in a run of eight words; one time in eight one up to 8 from a multiple of 2^62, of which four times as much wraps.
-fn around(random: &mut Random) -> u64 {
+pub fn around(random: &mut Random) -> u64 {
     match random.below(8) {
         0 => (random.below(4) << 62).wrapping_add(random.below(17)).wrapping_sub(8),
         _ => random.below(8),
     }
 }
 
-/// Damaged and other calls of the entries that write, at base addresses that are not multiples of 4: all get 15.
+/// Damaged and other calls of the entries that write new words, at base addresses that are not multiples of 4: all get 15.
 pub fn unaligned(count: u64) -> Part {
     Part {
         name: "unaligned",
-        what: format!("{count} calls of the entries that write, damaged or not, at base addresses that leave 1, 2 or 3 when divided by 4"),
+        what: format!("{count} calls of the entries that write new words, damaged or not, at base addresses that leave 1, 2 or 3 when divided by 4"),
         items: count,
         check: Box::new(unaligned_item),
     }

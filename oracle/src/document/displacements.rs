@@ -1,6 +1,7 @@
 //! Module 7: displacements; with document 02's request h, by which a base must have its format's
 //! form, request f, by which an ADRP goes to any target, and request g, by which a target is
-//! reached from the address of the place that is written.
+//! reached from the address of the place that is written. The host has, besides, a word that stands
+//! in the run sent to another distance.
 
 use super::No;
 use super::words::{self, Place};
@@ -43,6 +44,11 @@ impl Format {
             above >>= bits;
         }
         word
+    }
+
+    /// The word with its field clear.
+    pub fn cleared(&self, word: u32) -> u32 {
+        word - self.place(0, self.read(word))
     }
 }
 
@@ -165,6 +171,24 @@ pub fn emit_disp_target(
     emit_disp_imm(run, at, format, base, distance(format, target, at.address()))
 }
 
+/// Another distance in the word that stands at the place, whose field is cleared first. Order 15, 7,
+/// 8 (no word stands there), 11, 4, 5.
+pub fn retarget(run: &mut [u32], at: Place, format: u32, distance: i64) -> Result<u64, No> {
+    if !at.aligned() {
+        return Err(No(15));
+    }
+    let row = FORMATS.get(format as usize).ok_or(No(7))?;
+    let standing = usize::try_from(at.position).ok().and_then(|position| run.get_mut(position));
+    let word = standing.ok_or(No(8))?;
+    *word = disp_word(format, row.cleared(*word), distance)?;
+    Ok(at.position + 1)
+}
+
+/// The same to a target, from the address of the place; no 4 at format 4.
+pub fn retarget_to(run: &mut [u32], at: Place, format: u32, target: u64) -> Result<u64, No> {
+    retarget(run, at, format, distance(format, target, at.address()))
+}
+
 /// An address as a format counts from it and to it: for ADRP the page that it is on.
 pub fn page(format: u32, address: u64) -> u64 {
     if format == 4 { address / 4096 * 4096 } else { address }
@@ -186,4 +210,61 @@ pub fn read_disp(word: u32, format: u32) -> Result<i64, No> {
     let (number, all) = (format.read(word) as i64, 1 << format.bits());
     let signed = if number >= all / 2 { number - all } else { number };
     Ok(signed * format.step)
+}
+
+#[cfg(test)]
+mod tests {
+    use super::*;
+
+    const BRANCHES: [u32; 3] = [0x17FF_FFFF, 0x9400_0002, 0xA5A5_A5A5];
+
+    fn sent(base: u64, position: u64, format: u32, distance: i64) -> (Result<u64, No>, [u32; 3]) {
+        let mut run = BRANCHES;
+        (retarget(&mut run, Place { base, position }, format, distance), run)
+    }
+
+    #[test]
+    fn another_distance() {
+        assert_eq!(sent(0, 0, 0, 8), (Ok(1), [0x1400_0002, BRANCHES[1], BRANCHES[2]]));
+        assert_eq!(sent(4, 1, 0, -4), (Ok(2), [BRANCHES[0], 0x97FF_FFFF, BRANCHES[2]]));
+    }
+
+    /// In their order, with all that come behind.
+    #[test]
+    fn refusals() {
+        for (base, position, format, distance, number) in [
+            (1, 3, 6, 1 << 40 | 1, 15),
+            (0, 3, 6, 1 << 40 | 1, 7),
+            (0, 3, 0, 1 << 40 | 1, 8),
+            (0, u64::MAX, 0, 4, 8),
+            (0, 2, 0, 1 << 40 | 1, 11),
+            (0, 0, 1, 4, 11),
+            (0, 0, 0, 1 << 40 | 1, 4),
+            (0, 0, 0, 134217728, 5),
+        ] {
+            assert_eq!(sent(base, position, format, distance), (Err(No(number)), BRANCHES));
+        }
+    }
+
+    /// A word that has a distance, sent away and back, is itself; its field is cleared by the
+    /// distance 0, and no other bit is.
+    #[test]
+    fn there_and_back() {
+        for (format, base) in
+            [0x9400_0000, 0xB500_001F, 0xB7F8_001F, 0x1000_001F, 0x9000_001F, 0x9C00_001F]
+                .into_iter()
+                .enumerate()
+        {
+            let row = &FORMATS[format];
+            for distance in [row.least, -row.step, row.step, row.greatest] {
+                let word = disp_word(format as u32, base, distance).unwrap();
+                assert_eq!(row.cleared(word), base);
+                let (mut run, at) = ([word], Place { base: 0, position: 0 });
+                assert_eq!(retarget(&mut run, at, format as u32, 0), Ok(1));
+                assert_eq!(run, [base]);
+                assert_eq!(retarget_to(&mut run, at, format as u32, distance as u64), Ok(1));
+                assert_eq!(run, [word]);
+            }
+        }
+    }
 }

@@ -38,6 +38,11 @@ pub fn is_float(value: u64, width: u32) -> bool {
     encode_float(value, width).is_ok()
 }
 
+/// The same, where the width is asked too. Refusal 1: no such width.
+pub fn is_float_at(value: u64, width: u32) -> Result<bool, No> {
+    exponent_bits(width).map(|_| is_float(value, width))
+}
+
 /// Byte i is bit i. Refusal 3: a byte is neither 00 nor FF.
 pub fn encode_byte_mask(value: u64) -> Result<u32, No> {
     let mut imm8 = 0;

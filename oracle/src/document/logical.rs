@@ -68,6 +68,13 @@ pub fn decode_logical_imm(fields: Fields, width: u32) -> Result<u64, No> {
     decode_bit_masks(fields, width).map(|(value, _)| value).ok_or(No(3))
 }
 
+/// The mask as two words at the start of a run of bytes, the low one first. Order 1, 3, 8.
+pub fn put_decoded(run: &mut [u8], fields: Fields, width: u32) -> Result<u64, No> {
+    let halves =
+        decode_logical_imm(fields, width).map(|mask| vec![mask as u32, (mask >> 32) as u32]);
+    words::put_bytes(run, Place { base: 0, position: 0 }, halves)
+}
+
 /// Decodes, then encodes. Order 1, 3.
 pub fn normalise(fields: Fields, width: u32) -> Result<Answered, No> {
     encode_logical_imm(decode_logical_imm(fields, width)?, width)

@@ -14,6 +14,7 @@ use compare::library::Library;
 use compare::{at_zero, put, values};
 use oracle::direct;
 use oracle::lists::random::Random;
+use vaimalofo::raw;
 
 /// How many values, and how many rounds of each.
 const VALUES: usize = 2_000_000;
@@ -43,11 +44,14 @@ fn register(i: usize) -> u32 {
     i as u32 % 31
 }
 
+type Moves = dyn Fn(&[u64], &mut [u8]) -> usize;
+type FieldSums = dyn Fn(&[u64]) -> Sums;
+
 /// A side: its name, how it writes the words of all values one behind the other, and how it sums up their fields.
 struct Side {
     name: String,
-    moves: Box<dyn Fn(&[u64], &mut [u8]) -> usize>,
-    fields: Box<dyn Fn(&[u64]) -> Sums>,
+    moves: Box<Moves>,
+    fields: Box<FieldSums>,
 }
 
 /// The sum of all fields, and that of their elements' lengths: 0 of the Rust original, and of a library from before request d.
@@ -86,7 +90,7 @@ fn sides(paths: impl Iterator<Item = String>) -> Vec<Side> {
 fn entry_moves(values: &[u64], run: &mut [u8]) -> usize {
     let mut at = at_zero(0);
     for (i, value) in values.iter().enumerate() {
-        at = vaimalofo::mov(run, at, *value, register(i)).expect("there is room");
+        at = raw::mov(run, at, *value, register(i)).expect("there is room");
     }
     at.position.0
 }
@@ -131,7 +135,7 @@ fn sum_fields(values: &[u64], fields_of: impl Fn(u64) -> Option<[u32; 4]>) -> Su
 
 fn entry_fields(values: &[u64]) -> Sums {
     sum_fields(values, |value| {
-        vaimalofo::logical_fields(value, 64).ok().map(|f| [f.n, f.s, f.r, f.length])
+        raw::logical_fields(value, 64).ok().map(|f| [f.n, f.s, f.r, f.length])
     })
 }
 
