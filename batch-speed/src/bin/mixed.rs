@@ -15,7 +15,7 @@ impl Chance {
     }
 
     fn below(&mut self, n: u64) -> u64 {
-        (self.bits() >> 32) * n >> 32
+        ((self.bits() >> 32) * n) >> 32
     }
 }
 
