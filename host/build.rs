@@ -42,7 +42,7 @@ fn build() -> Result<(), String> {
         folder
     } else {
         let out = PathBuf::from(variable("OUT_DIR")?);
-        library(&top, &shared(&out), &target, &out.join("library"))?;
+        library(&top, &shared(&top, &out), &target, &out.join("library"))?;
         out.join("library")
     };
     println!("cargo::rustc-link-search=native={}", folder.display());
@@ -63,9 +63,15 @@ fn rerun(top: &Path) -> Result<(), String> {
     Ok(())
 }
 
-/// The folder to prove in, which all profiles and targets of one target folder of cargo's share: OUT_DIR is TARGET-FOLDER/[TARGET/]PROFILE/build/../out. Where
-/// it is not, it is a folder below OUT_DIR.
-fn shared(out: &Path) -> PathBuf {
+/// The folder to prove in. All profiles and targets of one target folder of cargo's share it: OUT_DIR is TARGET-FOLDER/[TARGET/]PROFILE/build/../out, and
+/// where it is not, it is shared by none. Where cargo's folder lies inside of this one, it is below target/: elsewhere rt would take the copy for crates that
+/// nothing proves.
+fn shared(top: &Path, out: &Path) -> PathBuf {
+    if let (Ok(top), Ok(out)) = (top.canonicalize(), out.canonicalize()) {
+        if out.starts_with(&top) {
+            return top.join("target/vaimalofo");
+        }
+    }
     let build = out.ancestors().skip(2).take(2).find(|above| above.ends_with("build"));
     let all = build.and_then(|build| {
         let above = build.parent()?.parent()?;
