@@ -2,37 +2,18 @@
 -- Assumes nothing.
 use mathlib.Core.Path.{_≡_, refl, sym, ap, _∙_}
 use Prim.Native.Nat.{ℕ, _+_, _-_, _*_, _/_, _%_, _^_, _<_, _≤_}
-use native.Mathlib.Nat.{mod-lt, div-add-mod', mod-one, zero-div, zero-mod, zero-mul}
+use native.Mathlib.Nat.{mod-lt, mod-one, zero-div, zero-mod, zero-mul}
 use native.Mathlib.Omega.{arith}
 use lib.Arith.{digits-div, digits-mod}
 use lib.ListN.{List·getD-eq-default}
 use lib.Pow.{pow-pos}
-use Rattle.words.proofs.Fields.{part, part-below, part-above}
+use Rattle.words.proofs.Fields.{part, part-below, part-above, part-le, taken-out}
 use Rattle.forms.specs.Form.{hasForm}
 use Rattle.displacements.specs.declared.Form.{Form}
 use Rattle.displacements.specs.Forms.{forms, formOf, fieldIn, putIn, clearIn}
 use Rattle.displacements.specs.Private.{Sound}
 use Rattle.displacements.proofs.Laws.{sound, field-lt, Outside, put-there, put-kept}
 use Rattle.displacements.proofs.Kept.{forms-kept}
-
--- ---- a part of a word taken out of it
-
-module _ (p n w : ℕ) where
-  -- the word as what stands above the part, the part, and what stands below
-  abbrev above : ℕ
-  above = w / 2 ^ p / 2 ^ n
-
-  whole : w ≡ (above * 2 ^ n + part p n w) * 2 ^ p + w % 2 ^ p
-  whole = sym (div-add-mod' w (2 ^ p)) ∙ ap (λ (q : ℕ). q * 2 ^ p + w % 2 ^ p) (sym (div-add-mod' (w / 2 ^ p) (2 ^ n)))
-
-  pub part-le : part p n w * 2 ^ p ≤ w
-  part-le = omega (arith, whole)
-
-  rest : w - part p n w * 2 ^ p ≡ above * 2 ^ n * 2 ^ p + w % 2 ^ p
-  rest = omega (arith, whole)
-
-  pub taken-out : part p n (w - part p n w * 2 ^ p) ≡ 0
-  taken-out = rw (rest, digits-div (above * 2 ^ n) (mod-lt w (pow-pos p))) (ap (λ (x : ℕ). x % 2 ^ n) (sym (omega arith)) ∙ digits-mod above (pow-pos n))
 
 -- ---- the field of a word
 

@@ -12,23 +12,22 @@ use denote.Ref.{RefT, now}
 use lib.Dec.{ltb}
 use lib.IntN.{ℤ}
 use lib.ListN.{length, getD}
-use Rattle.words.specs.Said.{Said, ok, no}
-use Rattle.words.specs.Answer.{IsNumber}
+use Rattle.words.specs.Said.{Said, ok}
 use Rattle.words.specs.Place.{placeAt, addressOf, Aligned}
 use Rattle.words.specs.declared.Place.{Place}
 use Rattle.words.specs.declared.Refusal.the-variants.{Unknown, NoRoom}
-use Rattle.words.proofs.Answers.{Numbered, alone-word, not-both}
+use Rattle.words.proofs.Answers.{alone-word}
 use Rattle.words.proofs.Fields.{part}
 use Rattle.writers.specs.Put.{wordsIn}
 use Rattle.displacements.specs.Forms.{formOf, clearIn}
-use Rattle.displacements.specs.Answer.{dispSaid, pageOf, between, offset, lowOf}
+use Rattle.displacements.specs.Answer.{pageOf, between, offset, lowOf}
 use Rattle.displacements.proofs.Laws.{Outside}
 use Rattle.displacements.proofs.Demands.{arrives, address-fits}
 use Rattle.displacements.proofs.Targets.{low-page}
 use Rattle.displacements.proofs.Pages.{Paged, paged-at}
 use Rattle.retargets.specs.Retarget.{wordAt, againSaid}
 use Rattle.retargets.proofs.Answers.{word-there, word-missing, again-7, again-missing, again-alone}
-use Rattle.retargets.proofs.Demands.{the-same, again-kept}
+use Rattle.retargets.proofs.Demands.{the-same, again-kept, sent}
 use Rattle.host.specs.Number.{refusalIn, lowBits, lowIn}
 use Rattle.host.specs.Number as number
 use Rattle.host.proofs.Demands.{Sane, target-low, fifteen, fifteen-to, stands-to, displacement-sane}
@@ -37,12 +36,6 @@ use Rattle.host_retargets.proofs.vaimalofo_retarget.Reads as retarget
 use Rattle.host_retargets.proofs.vaimalofo_retarget_to.Reads as retarget-to
 
 -- ---- what is said of the word that stands at a position of some words
-
--- at a format there is, and where a word stands
-record Known (ws : List ℕ) (p n : ℕ) (d : ℤ) (v : ℕ) : Type 0 where
-  at : n ≤ 5
-  there : p < length ws
-  word : againSaid n (ok (getD ws p 0)) d ≡ ok (v ∷ [])
 
 module _ (ws : List ℕ) (p n : ℕ) (d : ℤ) where
   -- four words at most, or the number of a refusal
@@ -54,21 +47,6 @@ module _ (ws : List ℕ) (p n : ℕ) (d : ℤ) where
       go false true e f =
           rw (word-there ws p (ltb-true p (length ws) f), the-same n (getD ws p 0) d (ltb-false 5 n e)) (displacement-sane n (clearIn (formOf n) (getD ws p 0)) d)
       go false false e f = rw (word-missing ws p (ltb-false p (length ws) f), again-missing n d 8 (ltb-false 5 n e)) (NoRoom, refl)
-
-  known : (v : ℕ) → againSaid n (wordAt ws p) d ≡ ok (v ∷ []) → Known ws p n d v
-  known v q = go (ltb 5 n) (ltb p (length ws)) refl refl
-    where
-      go : (b c : Bool) → ltb 5 n ≡ b → ltb p (length ws) ≡ c → Known ws p n d v
-      go true c e f = absurd (not-both (sym q ∙ again-7 n d (wordAt ws p) (ltb-true 5 n e)))
-      go false true e f =
-          let t = ltb-true p (length ws) f in
-          record { at = ltb-false 5 n e; there = t; word = ap (λ (x : Said ℕ). againSaid n x d) (sym (word-there ws p t)) ∙ q }
-      go false false e f =
-          absurd (not-both (sym q ∙ ap (λ (x : Said ℕ). againSaid n x d) (word-missing ws p (ltb-false p (length ws) f)) ∙ again-missing n d 8 (ltb-false 5 n e)))
-
-  -- over the cleared word it is what the distance entry makes
-  based : (v : ℕ) → againSaid n (wordAt ws p) d ≡ ok (v ∷ []) → dispSaid n (clearIn (formOf n) (getD ws p 0)) d ≡ ok (v ∷ [])
-  based v q = let k = known v q in sym (the-same n (getD ws p 0) d (k .at)) ∙ k .word
 
 module _ (k : Lfts 1) (bytes bytes′ : RefT (List ℕ)) (base-address position answer : ℕ) where
   abbrev at : Place
@@ -94,14 +72,14 @@ module _ (k : Lfts 1) (bytes bytes′ : RefT (List ℕ)) (base-address position 
 
     -- what was written, the reader reads
     pub retarget-read : refusalIn answer ≡ 0 → Read new format distance
-    retarget-read z = reads-back new format (clearIn (formOf format) old) distance (based ws position format distance new (there z))
+    retarget-read z = reads-back new format (clearIn (formOf format) old) distance (sent ws position format distance new (there z) .base)
 
     -- the word is an instruction of the format, and outside the field it is the old one
     pub retarget-formed : refusalIn answer ≡ 0 → Instruction new format
-    retarget-formed z = formed new format (clearIn (formOf format) old) distance (based ws position format distance new (there z))
+    retarget-formed z = formed new format (clearIn (formOf format) old) distance (sent ws position format distance new (there z) .base)
 
     pub retarget-kept : refusalIn answer ≡ 0 → (q l : ℕ) → Outside (formOf format) q l → part q l new ≡ part q l old
-    retarget-kept z = let t = known ws position format distance new (there z) in again-kept format old distance (t .at) new (t .word)
+    retarget-kept z = let t = sent ws position format distance new (there z) in again-kept format old distance (t .at) new (t .word)
 
     pub retarget-refusal : Refusals answer
     retarget-refusal = refusal (now bytes) at answer (now bytes′) said (again-sane ws position format distance) p
@@ -129,18 +107,18 @@ module _ (k : Lfts 1) (bytes bytes′ : RefT (List ℕ)) (base-address position 
         (found-to (now bytes) at answer (now bytes′) said-to (again-sane ws position format apart) low (target-low format target) p z)
 
     pub retarget-to-read : refusalIn answer ≡ 0 → Read new format apart
-    retarget-to-read z = reads-back new format (clearIn (formOf format) old) apart (based ws position format apart new (there-to z))
+    retarget-to-read z = reads-back new format (clearIn (formOf format) old) apart (sent ws position format apart new (there-to z) .base)
 
     pub retarget-to-formed : refusalIn answer ≡ 0 → Instruction new format
-    retarget-to-formed z = formed new format (clearIn (formOf format) old) apart (based ws position format apart new (there-to z))
+    retarget-to-formed z = formed new format (clearIn (formOf format) old) apart (sent ws position format apart new (there-to z) .base)
 
     pub retarget-to-kept : refusalIn answer ≡ 0 → (q l : ℕ) → Outside (formOf format) q l → part q l new ≡ part q l old
-    retarget-to-kept z = let t = known ws position format apart new (there-to z) in again-kept format old apart (t .at) new (t .word)
+    retarget-to-kept z = let t = sent ws position format apart new (there-to z) in again-kept format old apart (t .at) new (t .word)
 
     -- by Arm's reading the instruction arrives at the target, an ADRP at its page
     pub retarget-to-arrives : refusalIn answer ≡ 0 → target < 2 ^ 64 → (pageOf format address + offset format new) % 2 ^ 64 ≡ pageOf format target
     retarget-to-arrives z ht =
-        arrives format (clearIn (formOf format) old) target address new ht (address-fits at) (based ws position format apart new (there-to z))
+        arrives format (clearIn (formOf format) old) target address new ht (address-fits at) (sent ws position format apart new (there-to z) .base)
 
     -- which with the low bits in the answer is the target
     pub retarget-to-paged : refusalIn answer ≡ 0 → format ≡ 4 → target < 2 ^ 64 → Paged target address new (lowIn answer)
@@ -148,7 +126,7 @@ module _ (k : Lfts 1) (bytes bytes′ : RefT (List ℕ)) (base-address position 
         let bits : lowIn answer ≡ target % 4096 =
         stands-to (now bytes) at answer (now bytes′) low said-to (target-low format target) (again-sane ws position format apart) p z .2 .bits
         ∙ ap lowBits (low-page format target four) in
-        paged-at format (clearIn (formOf format) old) target address ht (address-fits at) new (lowIn answer) four bits (based ws position format apart new (there-to z))
+        paged-at format (clearIn (formOf format) old) target address ht (address-fits at) new (lowIn answer) four bits (sent ws position format apart new (there-to z) .base)
 
     pub retarget-to-refusal : Refusals answer
     retarget-to-refusal = refusal-to (now bytes) at answer (now bytes′) said-to (again-sane ws position format apart) low (target-low format target) p

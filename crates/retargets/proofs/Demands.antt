@@ -95,18 +95,33 @@ module _ (ws : List ℕ) (at : Place) (n : ℕ) (d : ℤ) (h : n ≤ 5) where
   pub again-at : posOf at < length ws → againSaid n (wordAt ws (posOf at)) d ≡ dispSaid n (clearIn (formOf n) (getD ws (posOf at) 0)) d
   again-at k = ap (λ (x : Said ℕ). againSaid n x d) (word-there ws (posOf at) k) ∙ again-there n d (getD ws (posOf at) 0) h
 
+-- ---- where a word was made: a format there is, and a word that stood
+
+pub record Sent (ws : List ℕ) (p n : ℕ) (d : ℤ) (v : ℕ) : Type 0 where
+  pub at : n ≤ 5
+  pub there : p < length ws
+  pub word : againSaid n (ok (getD ws p 0)) d ≡ ok (v ∷ [])
+  -- over the cleared word it is what the distance entry makes
+  pub base : dispSaid n (clearIn (formOf n) (getD ws p 0)) d ≡ ok (v ∷ [])
+
+pub sent : (ws : List ℕ) (p n : ℕ) (d : ℤ) (v : ℕ) → againSaid n (wordAt ws p) d ≡ ok (v ∷ []) → Sent ws p n d v
+sent ws p n d v q = go (ltb 5 n) (ltb p (length ws)) refl refl
+  where
+    go : (b c : Bool) → ltb 5 n ≡ b → ltb p (length ws) ≡ c → Sent ws p n d v
+    go true c e f = absurd (not-both (sym q ∙ again-7 n d (wordAt ws p) (ltb-true 5 n e)))
+    go false true e f =
+        let h = ltb-false 5 n e in
+        let t = ltb-true p (length ws) f in
+        let w = ap (λ (x : Said ℕ). againSaid n x d) (sym (word-there ws p t)) ∙ q in
+        record { at = h; there = t; word = w; base = sym (the-same n (getD ws p 0) d h) ∙ w }
+    go false false e f =
+        absurd (not-both (sym q ∙ ap (λ (x : Said ℕ). againSaid n x d) (word-missing ws p (ltb-false p (length ws) f)) ∙ again-missing n d 8 (ltb-false 5 n e)))
+
 -- ---- written: the word at the position is the old one with the new distance, and every other word is as before
 
 module _ (ws : List ℕ) (at : Place) (n : ℕ) (d : ℤ) (p : Place) (ws′ : List ℕ) (e : (ok p, ws′) ≡ putOf ws at (againSaid n (wordAt ws (posOf at)) d)) where
   pub retargeted : Emitted ws at (againSaid n (wordAt ws (posOf at)) d) p ws′
   retargeted = one-put ws at (againSaid n (wordAt ws (posOf at)) d) p ws′ (again-alone n (wordAt ws (posOf at)) d) e
-
-  known : n ≤ 5
-  known = go (ltb 5 n) refl
-    where
-      go : (b : Bool) → ltb 5 n ≡ b → n ≤ 5
-      go true q = absurd (not-both (sym (retargeted .there) ∙ again-7 n d (wordAt ws (posOf at)) (ltb-true 5 n q)))
-      go false q = ltb-false 5 n q
 
   abbrev old : ℕ
   old = getD ws (posOf at) 0
@@ -114,21 +129,21 @@ module _ (ws : List ℕ) (at : Place) (n : ℕ) (d : ℤ) (p : Place) (ws′ : L
   abbrev new : ℕ
   new = getD ws′ (posOf at) 0
 
-  made-of : againSaid n (ok old) d ≡ ok (new ∷ [])
-  made-of = ap (λ (x : Said ℕ). againSaid n x d) (sym (word-there ws (posOf at) (retargeted .room))) ∙ retargeted .there
+  made-of : Sent ws (posOf at) n d new
+  made-of = sent ws (posOf at) n d new (retargeted .there)
 
   pub retarget-reads : (offset n new ≡ ofZ w64 d) × (readSaid new n ≡ ok d)
-  retarget-reads = again-reads n old d known new made-of
+  retarget-reads = again-reads n old d (made-of .at) new (made-of .word)
 
   pub retarget-kept : (q l : ℕ) → Outside (formOf n) q l → part q l new ≡ part q l old
-  retarget-kept = again-kept n old d known new made-of
+  retarget-kept = again-kept n old d (made-of .at) new (made-of .word)
 
   pub retarget-form : Formed n new
-  retarget-form = again-form n old d known new made-of
+  retarget-form = again-form n old d (made-of .at) new (made-of .word)
 
   -- the distance entry's word over the cleared one
   pub retarget-base : dispSaid n (clearIn (formOf n) old) d ≡ ok (new ∷ [])
-  retarget-base = sym (the-same n old d known) ∙ made-of
+  retarget-base = made-of .base
 
 -- to a target: by Arm's reading the instruction arrives there, an ADRP at its page, which with the low bits is the target
 module _ (ws : List ℕ) (at : Place) (n t : ℕ) (p : Place) (ws′ : List ℕ) (ht : t < 2 ^ 64) where

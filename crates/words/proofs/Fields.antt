@@ -1,8 +1,8 @@
--- A field of n bits at bit p of a word w, put there as w + g * 2 ^ p: it reads as g, and every other part of the word as before; and a field
--- is clear exactly if each of its bits is. Assumes nothing.
+-- A field of n bits at bit p of a word w, put there as w + g * 2 ^ p: it reads as g, and every other part of the word as before; taken out of the
+-- word it is clear; and a field is clear exactly if each of its bits is. Assumes nothing.
 use mathlib.Core.Path.{_≡_, refl, sym, ap, _∙_}
 use Prim.Native.Nat.{ℕ, zero, suc, _+_, _-_, _*_, _/_, _%_, _^_, _<_, _≤_}
-use native.Mathlib.Nat.{add-mul-div-right, add-mul-mod-self-right, div-add-mod', zero-div, mod-one}
+use native.Mathlib.Nat.{add-mul-div-right, add-mul-mod-self-right, div-add-mod', mod-lt, zero-div, mod-one}
 use native.Mathlib.Omega.{arith}
 use lib.Arith.{digits-div, digits-mod}
 use lib.Pow.{pow-pos, pow-add, shr-shr, field, mod-mod-pow, mod-pow-add}
@@ -49,6 +49,25 @@ module _ (p n w g : ℕ) (free : part p n w ≡ 0) (fits : g < 2 ^ n) where
 
   pub part-above : (q l : ℕ) → p + n ≤ q → part q l (w + g * 2 ^ p) ≡ part q l w
   part-above q l h = ap (λ (v : ℕ). v % 2 ^ l) (high-kept q h)
+
+-- ---- a field taken out of the word
+
+module _ (p n w : ℕ) where
+  -- the word as what stands above the part, the part, and what stands below
+  abbrev above : ℕ
+  above = w / 2 ^ p / 2 ^ n
+
+  parts : w ≡ (above * 2 ^ n + part p n w) * 2 ^ p + w % 2 ^ p
+  parts = sym (div-add-mod' w (2 ^ p)) ∙ ap (λ (q : ℕ). q * 2 ^ p + w % 2 ^ p) (sym (div-add-mod' (w / 2 ^ p) (2 ^ n)))
+
+  pub part-le : part p n w * 2 ^ p ≤ w
+  part-le = omega (arith, parts)
+
+  rest : w - part p n w * 2 ^ p ≡ above * 2 ^ n * 2 ^ p + w % 2 ^ p
+  rest = omega (arith, parts)
+
+  pub taken-out : part p n (w - part p n w * 2 ^ p) ≡ 0
+  taken-out = rw (rest, digits-div (above * 2 ^ n) (mod-lt w (pow-pos p))) (ap (λ (x : ℕ). x % 2 ^ n) (sym (omega arith)) ∙ digits-mod above (pow-pos n))
 
 -- ---- a field and its bits
 
