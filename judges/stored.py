@@ -1,9 +1,9 @@
 #!/usr/bin/env python3
-"""stored.py moves|displacements|targets|forms: what the stored answers have written, or have said of forms, in the form that moves_qemu.py,
-displacements_as.py, targets_ld.py and forms_objdump.py read.
+"""stored.py moves|displacements|targets|forms|labels: what the stored answers have written, or have said of forms, in the form that
+moves_qemu.py, displacements_as.py, targets_ld.py, forms_objdump.py and labels_as.py read.
 
-The stored requests and answers (crates/replay, crates/differences) are what the gate sees the proved programs print, so a judge of them
-judges the programs."""
+The stored requests and answers (crates/replay, crates/differences, crates/label_scripts) are what the gate sees the proved programs print, so a
+judge of them judges the programs."""
 import struct
 import sys
 
@@ -75,5 +75,59 @@ def forms():
             print(f"{word % 2 ** 32:x}", form % 2 ** 32, "-" if answer == lacking else form % 2 ** 32)
 
 
+class Overlay:
+    """The run, the labels and the uses of a script of labels, by what was accepted. A word that was finished stands here as it was before, with its
+    label and the base address: the label stays where it is bound."""
+
+    def __init__(self, words):
+        self.bound, self.waits = {}, []
+        self.items = [(0, None, 0)] * words
+
+    def put(self, position, word):
+        if position < len(self.items):
+            self.items[position] = word, None, 0
+
+    def finish(self, base):
+        for position, label in self.waits:
+            self.items[position] = self.items[position][0], label, base
+        self.waits = []
+
+    def line(self, base, total):
+        """The program, or None where no word reaches a label, or an ADRP was finished at another base address."""
+        reach = [(word, since) for word, label, since in self.items if label is not None]
+        if not reach or any(word & 0x9F000000 == 0x90000000 and since != base for word, since in reach):
+            return None
+        labels = ",".join(f"{label}@{position}" for label, position in self.bound.items())
+        words = ",".join(f"{word:x}" if label is None else f"{word:x}>{label}" for word, label, _ in self.items)
+        return f"{base:x} {labels} {words} ={total}"
+
+
+ANEW, PUT, BIND, USE, FINISH = range(5)
+
+
+def labels():
+    """Every finish of the stored scripts that was accepted, with the sum of the words after it."""
+    overlay = Overlay(0)
+    with open("crates/label_scripts/stdin", "rb") as records, open("crates/label_scripts/stdout", encoding="ascii") as answers:
+        while len(record := records.read(40)) == 40:
+            kind, base, label, position, form = struct.unpack("<5Q", record)
+            accepted = next(answers).split()[0] == "ok"
+            sums = [int(next(answers).split()[1]) for _ in range(5)] if kind == FINISH else []
+            if not accepted:
+                continue
+            if kind == ANEW:
+                overlay = Overlay(min(form, 2048))
+            elif kind == PUT:
+                overlay.put(position, label % 2 ** 32)
+            elif kind == BIND:
+                overlay.bound[label % 2 ** 32] = position
+            elif kind == USE:
+                overlay.waits.append((position, label % 2 ** 32))
+            else:
+                overlay.finish(base)
+                if line := overlay.line(base, sums[0]):
+                    print(line)
+
+
 if __name__ == "__main__":
-    {"moves": moves, "displacements": displacements, "targets": targets, "forms": forms}[sys.argv[1]]()
+    {"moves": moves, "displacements": displacements, "targets": targets, "forms": forms, "labels": labels}[sys.argv[1]]()

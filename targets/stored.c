@@ -3,11 +3,12 @@
  *
  * A parameter of 32 bits is declared with 64 here, also the one that lies on the stack: what a caller leaves in the upper half is nobody's, so each
  * request is asked with four upper halves. Its run starts at four distances from a multiple of four, with a tail of 0 to 3 bytes, between bytes that
- * must stay. On AArch64 every call goes through `watched`, which looks at the registers that a function has to give back as they were: how that is
- * done is what most parts one system's code from another's. */
+ * must stay. */
 #include <inttypes.h>
 #include <stdio.h>
 #include <string.h>
+
+#include "watched.h"
 
 uint64_t vaimalofo_move(uint8_t *, size_t, uint64_t, size_t, uint64_t, uint64_t reg);
 uint64_t vaimalofo_patchable_move(uint8_t *, size_t, uint64_t, size_t, uint64_t, uint64_t size, uint64_t reg);
@@ -26,33 +27,6 @@ uint64_t vaimalofo_count_zero_half_words(uint64_t);
 uint64_t vaimalofo_check_gp_id(uint64_t id, uint64_t high);
 uint64_t vaimalofo_check_vec_id(uint64_t id);
 uint64_t vaimalofo_cond_field(uint64_t cond);
-
-uint64_t watched_entry, watched_lost;
-#ifdef __aarch64__
-uint64_t watched(void);
-/* Calls watched_entry with the arguments that it has itself, nine at most, and adds to watched_lost what changed in sp, x19 to x29 and d8 to d15. */
-__asm__(".text\n.globl watched\n.type watched, %function\nwatched:\n"
-        "ldr x9, [sp]\n"
-        "stp x29, x30, [sp, #-160]!\n"
-        "stp x19, x20, [sp, #16]\nstp x21, x22, [sp, #32]\nstp x23, x24, [sp, #48]\nstp x25, x26, [sp, #64]\nstp x27, x28, [sp, #80]\n"
-        "stp d8, d9, [sp, #96]\nstp d10, d11, [sp, #112]\nstp d12, d13, [sp, #128]\nstp d14, d15, [sp, #144]\n"
-        "str x9, [sp, #-16]!\n"
-        "mov x29, sp\n"
-        ".irp r, 8, 9, 10, 11, 12, 13, 14, 15\nmovn x10, #\\r * 1003\nfmov d\\r, x10\n.endr\n"
-        ".irp r, 19, 20, 21, 22, 23, 24, 25, 26, 27, 28\nmovn x\\r, #\\r * 1001\n.endr\n"
-        "adrp x16, watched_entry\nldr x16, [x16, :lo12:watched_entry]\nblr x16\n"
-        "mov x9, sp\neor x9, x9, x29\n"
-        ".irp r, 8, 9, 10, 11, 12, 13, 14, 15\nmovn x10, #\\r * 1003\nfmov x11, d\\r\neor x10, x10, x11\norr x9, x9, x10\n.endr\n"
-        ".irp r, 19, 20, 21, 22, 23, 24, 25, 26, 27, 28\nmovn x10, #\\r * 1001\neor x10, x10, x\\r\norr x9, x9, x10\n.endr\n"
-        "adrp x10, watched_lost\nldr x11, [x10, :lo12:watched_lost]\norr x11, x11, x9\nstr x11, [x10, :lo12:watched_lost]\n"
-        "add sp, sp, #16\n"
-        "ldp x19, x20, [sp, #16]\nldp x21, x22, [sp, #32]\nldp x23, x24, [sp, #48]\nldp x25, x26, [sp, #64]\nldp x27, x28, [sp, #80]\n"
-        "ldp d8, d9, [sp, #96]\nldp d10, d11, [sp, #112]\nldp d12, d13, [sp, #128]\nldp d14, d15, [sp, #144]\n"
-        "ldp x29, x30, [sp], #160\nret\n");
-#define CALL(entry) (watched_entry = (uint64_t)(uintptr_t)(entry), (__typeof__(&(entry)))(uintptr_t)watched)
-#else
-#define CALL(entry) (entry)
-#endif
 
 enum { AROUND = 16, MOST_WORDS = 8, ALL = AROUND + 3 + 4 * MOST_WORDS + 3 + AROUND, UNTOUCHED = 0x5C };
 

@@ -11,6 +11,9 @@
  * signed, are the value, 0 with a refusal. Any numbers may be asked. With a refusal no byte of the run has changed; else the words
  * asked for stand from the position on (those of vaimalofo_decode_logical, which takes none, from the run's start), and every other byte
  * is as before.
+ *
+ * The entries for labels take a run of words in place of its bytes, a table and a sheet, each a pointer and how many there are: these are
+ * aligned as C has it, do not overlap, and else are as a run is. The bytes of such a run are (uint8_t *)words.
  */
 #ifndef VAIMALOFO_H
 #define VAIMALOFO_H
@@ -33,7 +36,11 @@ enum {
     VAIMALOFO_UNKNOWN = 7,  /* an unknown format or operation number */
     VAIMALOFO_NO_ROOM = 8,  /* the words do not fit from the position on, the position lies past the end, or no whole word stands there */
     VAIMALOFO_WRONG_FORM = 11, /* the base word, or the word at the position, is not an instruction of this format */
-    VAIMALOFO_UNALIGNED = 15   /* the base address is not a multiple of 4 */
+    VAIMALOFO_LABEL = 12,      /* there is no such label, or, at finishing, it is not bound */
+    VAIMALOFO_TWICE = 13,      /* the label is bound already */
+    VAIMALOFO_FULL = 14,       /* the sheet is full, or the count is above what it may hold */
+    VAIMALOFO_UNALIGNED = 15,  /* the base address is not a multiple of 4 */
+    VAIMALOFO_AGAIN = 16       /* an earlier use that waits names the same word */
 };
 
 /* Displacement formats. */
@@ -48,6 +55,16 @@ enum {
 
 /* Logical operations. */
 enum { VAIMALOFO_AND = 0, VAIMALOFO_ORR = 1, VAIMALOFO_EOR = 2, VAIMALOFO_ANDS = 3 };
+
+/* How many labels there are at most, and how many uses wait at most, however long table and sheet are. */
+enum { VAIMALOFO_LABELS = 256, VAIMALOFO_USES = 1024 };
+
+/* A use of a label that waits, in a sheet: the word at position `at` is to reach the label, at a format. */
+struct vaimalofo_use {
+    uint32_t label;
+    size_t at;
+    uint32_t format;
+};
 
 /* The refusal of an answer: 0 where nothing was refused. */
 static inline unsigned vaimalofo_refusal(uint64_t answer) {
@@ -161,6 +178,28 @@ uint64_t vaimalofo_has_form(uint32_t format, uint32_t word);
 
 /* The distance that any word spells at a format. Order 7. Value: the distance in bytes. */
 uint64_t vaimalofo_read_displacement(uint32_t word, uint32_t format);
+
+/* Labels. A label is a number below 256 and below the length of a table that the host lends: its entry there is 0 where it is unbound, else
+ * one more than the word position that it is bound to. The host clears the table first. A sheet is an array of uses, of which the first
+ * `count` wait: the host keeps the count, at first 0. It is full where `count` is 1024 or its length; what stands behind is not read.
+ *
+ * Binds a label to a position: of a word, or the end. Order 15, 12, 13, 8; 8 where the position lies past the end. Value: 0. */
+uint64_t vaimalofo_bind_label(size_t *labels, size_t labels_len, const uint32_t *words, size_t words_len,
+                              uint64_t base_address, size_t position, uint32_t label);
+
+/* The word that stands at the position waits for a label, bound or not: uses[count] takes it. The word is a base of the format. Order 15, 7,
+ * 12, 8, 11, 6, 16, 14; 8 where no word stands at the position. Value: the count after it. */
+uint64_t vaimalofo_use_label(struct vaimalofo_use *uses, size_t uses_len, size_t count, uint32_t label, uint32_t format,
+                             const size_t *labels, size_t labels_len, const uint32_t *words, size_t words_len,
+                             uint64_t base_address, size_t position);
+
+/* Gives each word that waits the distance to its label, as vaimalofo_displacement_to does to the label's address, which for ADRP is to its
+ * page; every other word stays. All uses are tested before a word is written. Order 15; 14 where `count` is above 1024 or the sheet's length;
+ * then the first that a use has, in the sheet's order: 7, 12 (no such label, or not bound), 8 (the word, or the label, is not in the run), 11,
+ * 6, 16, 4, 5. Value: 0, which is the count after it. Records and table stay as they are: the labels are bound still, and the sheet's room
+ * is free. */
+uint64_t vaimalofo_finish_labels(const struct vaimalofo_use *uses, size_t uses_len, size_t count, const size_t *labels,
+                                 size_t labels_len, uint32_t *words, size_t words_len, uint64_t base_address);
 
 /* The 8-bit float that spells a value, given by its bits, at width 16, 32 or 64; bits above the width are ignored. Order 1, 3. Value: the 8
  * bits, 0 to 255. */

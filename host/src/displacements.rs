@@ -23,7 +23,7 @@ pub struct Reached {
 }
 
 /// The distance from a place to a target, as the entries take it: from the instruction, and for ADRP from its page to the target's.
-fn distance_to(format: Format, at: Place, target: Address) -> ByteDistance {
+pub(crate) fn distance_to(format: Format, at: Place, target: Address) -> ByteDistance {
     let page = |address: u64| if format == Format::Adrp21 { address & !0xFFF } else { address };
     ByteDistance(page(target.0).wrapping_sub(page(at.address().0)) as i64)
 }

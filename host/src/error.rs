@@ -2,11 +2,11 @@
 
 use core::fmt;
 
-use crate::{Address, ByteDistance, Format, Place, Refusal, Reg, Width, WordPos};
+use crate::{Address, ByteDistance, Format, Label, Place, Refusal, Reg, Width, WordPos};
 
 /// Why a request was turned down, with the operand that it is about. Nothing that was lent has then changed.
 ///
-/// It prints operand and limit, and has document 01's number:
+/// It prints operand and limit, and has the refusal's number:
 ///
 /// ```
 /// use vaimalofo::{displacement, Address, ByteDistance, Error, Format, Place, Refusal};
@@ -18,7 +18,7 @@ use crate::{Address, ByteDistance, Format, Place, Refusal, Reg, Width, WordPos};
 /// assert_eq!(error.to_string(), "distance 40000 is outside -32768..=32764 of TBZ and TBNZ");
 /// assert_eq!((error.number(), error.refusal()), (5, Refusal::Range));
 /// ```
-// A later request of document 02 has refusals of its own.
+// A later request may have more of them.
 #[derive(Clone, Copy, Debug, PartialEq, Eq, Hash)]
 #[non_exhaustive]
 pub enum Error {
@@ -97,6 +97,53 @@ pub enum Error {
         /// How many whole words the run has.
         words: usize,
     },
+    /// 7: no format has this number, which stands in a record that the host wrote.
+    NoFormat {
+        /// The number.
+        format: u32,
+    },
+    /// 12: there is no such label.
+    NoLabel {
+        /// The label.
+        label: Label,
+        /// How many there are.
+        labels: usize,
+    },
+    /// 12: a word waits for a label that is not bound.
+    Unbound {
+        /// The label.
+        label: Label,
+    },
+    /// 13: the label is bound already.
+    Twice {
+        /// The label.
+        label: Label,
+        /// Where it is bound.
+        position: WordPos,
+    },
+    /// 8: the label is bound, or was to be bound, past the end of the run.
+    LabelPastEnd {
+        /// The label.
+        label: Label,
+        /// The position.
+        position: WordPos,
+        /// How many words the run has.
+        words: usize,
+    },
+    /// 14: more uses than the sheet may hold.
+    Full {
+        /// How many were to wait.
+        uses: usize,
+        /// How many may.
+        room: usize,
+    },
+    /// 16: another use waits for the same word.
+    Again {
+        /// The word's position.
+        position: WordPos,
+        /// The label that the other one is of.
+        label: Label,
+    },
 }
 
 impl Error {
@@ -120,7 +167,12 @@ impl Error {
             Error::Taken { .. } => Refusal::Taken,
             Error::Step { .. } => Refusal::Step,
             Error::Range { .. } => Refusal::Range,
-            Error::NoRoom { .. } => Refusal::NoRoom,
+            Error::NoRoom { .. } | Error::LabelPastEnd { .. } => Refusal::NoRoom,
+            Error::NoFormat { .. } => Refusal::Unknown,
+            Error::NoLabel { .. } | Error::Unbound { .. } => Refusal::Label,
+            Error::Twice { .. } => Refusal::Twice,
+            Error::Full { .. } => Refusal::Full,
+            Error::Again { .. } => Refusal::Again,
         }
     }
 
@@ -171,14 +223,42 @@ impl fmt::Display for Error {
                 write!(f, "distance {by} is outside {:?} of {format}", format.range())
             }
             Error::NoRoom { position: WordPos(position), words } => {
-                let s = if words == 1 { "" } else { "s" };
+                let s = plural(words);
                 write!(f, "no room at position {position} of a run of {words} word{s}")
+            }
+            Error::NoFormat { format } => write!(f, "{format} is no format, which are 0 to 5"),
+            Error::NoLabel { label: Label(label), labels } => {
+                write!(f, "label {label} is none of the {labels} from 0 on")
+            }
+            Error::Unbound { label: Label(label) } => write!(f, "label {label} is not bound"),
+            Error::Twice { label: Label(label), position: WordPos(position) } => {
+                write!(f, "label {label} is bound already, at position {position}")
+            }
+            Error::LabelPastEnd { label: Label(label), position: WordPos(position), words } => {
+                let s = plural(words);
+                write!(f, "label {label} at position {position} is past the end of a run of {words} word{s}")
+            }
+            Error::Full { uses, room } => {
+                let s = plural(room);
+                write!(f, "the sheet has room for {room} use{s}, and {uses} were to wait")
+            }
+            Error::Again { position: WordPos(position), label: Label(label) } => {
+                write!(f, "the word at position {position} waits for label {label} already")
             }
         }
     }
 }
 
 impl core::error::Error for Error {}
+
+/// What more than one of a thing is written with.
+const fn plural(count: usize) -> &'static str {
+    if count == 1 {
+        ""
+    } else {
+        "s"
+    }
+}
 
 /// The operands of a call, so far as a refusal may be about them.
 #[derive(Clone, Copy)]

@@ -1,8 +1,32 @@
 //! The C entries, and the only `unsafe` lines of the package. An entry answers whatever the numbers are, touches no byte outside of
-//! the run, and keeps neither its pointer nor its length: a pointer and a length that come from one slice are all that a call asks.
-//! A place crosses as its two numbers, the address of the run's first word and then the position.
+//! what it is lent, and keeps neither its pointer nor its length: a pointer and a length that come from one slice are all that a call
+//! asks. A place crosses as its two numbers, the address of the run's first word and then the position.
 
-use crate::Place;
+use core::{mem, slice};
+
+use crate::{Address, Place};
+
+/// A use of a label that waits, as it stands in a lent sheet: the word at position `at` is to reach the label, at a format.
+/// [`Uses`](crate::Uses) makes it; [`raw`](crate::raw) and the C entries take any numbers in it.
+///
+/// ```
+/// use vaimalofo::{Format, Use};
+///
+/// let waits = Use { label: 3, at: 5, format: Format::Branch26.number() };
+/// // A sheet begins with records that mean nothing yet.
+/// let sheet = [Use::default(); 16];
+/// assert_ne!(sheet[0], waits);
+/// ```
+#[repr(C)]
+#[derive(Clone, Copy, Debug, Default, PartialEq, Eq, Hash)]
+pub struct Use {
+    /// The label's number.
+    pub label: u32,
+    /// The word's position in the run.
+    pub at: usize,
+    /// The format's number.
+    pub format: u32,
+}
 
 extern "C" {
     fn vaimalofo_move(
@@ -86,6 +110,38 @@ extern "C" {
     fn vaimalofo_check_gp_id(id: u32, high: u32) -> u64;
     fn vaimalofo_check_vec_id(id: u32) -> u64;
     fn vaimalofo_cond_field(cond: u32) -> u64;
+    fn vaimalofo_bind_label(
+        labels: *mut usize,
+        labels_len: usize,
+        words: *const u32,
+        words_len: usize,
+        base_address: u64,
+        position: usize,
+        label: u32,
+    ) -> u64;
+    fn vaimalofo_use_label(
+        uses: *mut Use,
+        uses_len: usize,
+        count: usize,
+        label: u32,
+        format: u32,
+        labels: *const usize,
+        labels_len: usize,
+        words: *const u32,
+        words_len: usize,
+        base_address: u64,
+        position: usize,
+    ) -> u64;
+    fn vaimalofo_finish_labels(
+        uses: *const Use,
+        uses_len: usize,
+        count: usize,
+        labels: *const usize,
+        labels_len: usize,
+        words: *mut u32,
+        words_len: usize,
+        base_address: u64,
+    ) -> u64;
 }
 
 /// What a call that writes begins with: the slice's pointer and length, the base address (the origin) and the position.
@@ -222,4 +278,76 @@ pub fn check_vec_id(id: u32) -> u64 {
 pub fn cond_field(cond: u32) -> u64 {
     // SAFETY: numbers alone.
     unsafe { vaimalofo_cond_field(cond) }
+}
+
+#[inline]
+pub fn bind_label(labels: &mut [usize], words: &[u32], at: Place, label: u32) -> u64 {
+    // SAFETY: each pointer has its slice's length beside it, lent for the call.
+    unsafe {
+        vaimalofo_bind_label(
+            labels.as_mut_ptr(),
+            labels.len(),
+            words.as_ptr(),
+            words.len(),
+            at.base.0,
+            at.position.0,
+            label,
+        )
+    }
+}
+
+#[inline]
+pub fn use_label(
+    (uses, count): (&mut [Use], usize),
+    labels: &[usize],
+    words: &[u32],
+    at: Place,
+    (label, format): (u32, u32),
+) -> u64 {
+    // SAFETY: each pointer has its slice's length beside it, lent for the call.
+    unsafe {
+        vaimalofo_use_label(
+            uses.as_mut_ptr(),
+            uses.len(),
+            count,
+            label,
+            format,
+            labels.as_ptr(),
+            labels.len(),
+            words.as_ptr(),
+            words.len(),
+            at.base.0,
+            at.position.0,
+        )
+    }
+}
+
+#[inline]
+pub fn finish_labels(
+    (uses, count): (&[Use], usize),
+    labels: &[usize],
+    words: &mut [u32],
+    base: Address,
+) -> u64 {
+    // SAFETY: each pointer has its slice's length beside it, lent for the call.
+    unsafe {
+        vaimalofo_finish_labels(
+            uses.as_ptr(),
+            uses.len(),
+            count,
+            labels.as_ptr(),
+            labels.len(),
+            words.as_mut_ptr(),
+            words.len(),
+            base.0,
+        )
+    }
+}
+
+/// The bytes of words. Every target of the library has the low byte of a word first.
+#[inline]
+pub fn bytes(words: &mut [u32]) -> &mut [u8] {
+    let length = mem::size_of_val(words);
+    // SAFETY: it is the slice's own memory, lent as long; any four bytes are a word, and a byte may stand anywhere.
+    unsafe { slice::from_raw_parts_mut(words.as_mut_ptr().cast(), length) }
 }

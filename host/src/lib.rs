@@ -1,5 +1,5 @@
 //! A64 (AArch64) machine words from proved encoders: moves of 64-bit values, logical immediates, the displacements of branches, ADR,
-//! ADRP and LDR (literal), 8-bit floats and byte masks.
+//! ADRP and LDR (literal), labels that are bound late, 8-bit floats and byte masks.
 //!
 //! Every function calls an entry of a static library in which each function is proved to meet its contract; this package is the safe
 //! Rust around it, without `std` and without an allocator. An answer is a value or an [`Error`] that names the operand, whatever was
@@ -29,11 +29,12 @@
 //! | use a mask | [`logical_word`], [`logical_fields`], [`decode_logical`], [`normalise_logical`] |
 //! | branch, or reach data | [`displacement`], [`displacement_to`], [`has_form`], [`read_displacement`] |
 //! | change a distance later | [`retarget`], [`retarget_to`] |
+//! | reach what has no address yet | [`Labels`], [`Uses`] |
 //! | use a small immediate | [`encode_fp64_to_imm8`], [`is_fp64_imm8`] and those for 16 and 32 bits, [`encode_byte_mask_to_imm8`], [`is_byte_mask_imm`] |
 //! | test ids and conditions as asmkit does | [`check_gp_id`], [`check_vec_id`], [`cond_code_to_opcode_field`] |
 //!
-//! [`raw`] has the same on bare numbers. Where a page of this project says "document 01", the paper is meant that the rules and the
-//! numbers of the refusals came from.
+//! [`raw`] has the same on bare numbers. Labels are those of a run of words, whose bytes [`bytes`] lends to the functions that write.
+//! Where a page of this project says "document 01", the paper is meant that the rules and the numbers of the refusals came from.
 
 #![no_std]
 #![deny(unsafe_code)]
@@ -45,6 +46,7 @@ mod error;
 mod ffi;
 mod format;
 mod immediates;
+mod labels;
 mod logical;
 mod moves;
 mod place;
@@ -56,16 +58,18 @@ pub use displacements::{
     displacement, displacement_to, has_form, read_displacement, retarget, retarget_to, Reached,
 };
 pub use error::Error;
+pub use ffi::Use;
 pub use format::Format;
 pub use immediates::{
     encode_byte_mask_to_imm8, encode_fp16_to_imm8, encode_fp32_to_imm8, encode_fp64_to_imm8,
     is_byte_mask_imm, is_fp16_imm8, is_fp32_imm8, is_fp64_imm8,
 };
+pub use labels::{Label, Labels, Unfinished, Uses};
 pub use logical::{
     decode_logical, logical_fields, logical_word, normalise_logical, Fields, Logical, LogicalOp,
 };
 pub use moves::{count_zero_half_words_64, mov, patchable_mov};
-pub use place::{words, Address, ByteDistance, Place, WordPos, Words};
+pub use place::{bytes, words, Address, ByteDistance, Place, WordPos, Words};
 pub use refusal::Refusal;
 pub use register::{check_gp_id, check_vec_id, cond_code_to_opcode_field, Reg, Width};
 

@@ -3,6 +3,8 @@
 use core::iter::FusedIterator;
 use core::slice::ChunksExact;
 
+use crate::ffi;
+
 /// A position in a run, counted in words of four bytes.
 ///
 /// ```
@@ -99,6 +101,21 @@ impl Place {
 #[inline]
 pub fn words(bytes: &[u8]) -> Words<'_> {
     Words(bytes.chunks_exact(4))
+}
+
+/// The bytes of a run of words, for the functions that write: the other way around than [`words`].
+///
+/// ```
+/// use vaimalofo::{bytes, mov, Address, Place, Reg};
+///
+/// let mut code = [0; 2];
+/// mov(bytes(&mut code), Place::at(Address(0x1000)), 0x12345678, Reg::X0)?;
+/// assert_eq!(code, [0xD28ACF00, 0xF2A24680]);
+/// # Ok::<(), vaimalofo::Error>(())
+/// ```
+#[inline]
+pub fn bytes(words: &mut [u32]) -> &mut [u8] {
+    ffi::bytes(words)
 }
 
 /// The iterator of [`words`].

@@ -1,10 +1,10 @@
-//! The entries on bare numbers, with document 01's numbers for an answer: for differential use, where wild numbers are to be asked as
+//! The entries on bare numbers, with the refusals' numbers for an answer: for differential use, where wild numbers are to be asked as
 //! they are, and for hosts that have numbers in hand.
 //!
 //! Each function is one C entry. Where several refusals apply, it gives the first in the order that stands beside it. With a refusal
 //! every lent byte is as it was.
 
-use crate::{ffi, Fields, Format, Place, Reached, Refusal};
+use crate::{ffi, Address, Fields, Format, Place, Reached, Refusal, Use};
 
 /// The value of the one number that an entry answers: the bits above its low byte, read as signed.
 #[inline]
@@ -375,4 +375,91 @@ pub fn check_vec_id(id: u32) -> bool {
 #[inline]
 pub fn cond_field(cond: u32) -> u32 {
     value(ffi::cond_field(cond)) as u32
+}
+
+/// [`Labels::bind`](crate::Labels::bind) in a table: the entry of a label is 0 where it is unbound, else one more than its position.
+///
+/// # Errors
+/// [`Refusal::Unaligned`], [`Refusal::Label`] for a label at or past 256 or the table's length, [`Refusal::Twice`],
+/// [`Refusal::NoRoom`] for a position past the end; the end itself may have a label.
+///
+/// ```
+/// use vaimalofo::{raw, Address, Place, Refusal};
+///
+/// let (mut labels, start) = ([0; 4], Place::at(Address(0)));
+/// assert_eq!(raw::bind_label(&mut labels, &[0; 8], start, 2), Ok(()));
+/// assert_eq!(labels, [0, 0, 1, 0]);
+/// assert_eq!(raw::bind_label(&mut labels, &[0; 8], start, 2), Err(Refusal::Twice));
+/// assert_eq!(raw::bind_label(&mut labels, &[0; 8], start, 4), Err(Refusal::Label));
+/// ```
+#[inline]
+pub fn bind_label(
+    labels: &mut [usize],
+    words: &[u32],
+    at: Place,
+    label: u32,
+) -> Result<(), Refusal> {
+    answer(ffi::bind_label(labels, words, at, label)).map(|_| ())
+}
+
+/// [`Uses::add`](crate::Uses::add) to the first `count` records of a sheet, which wait: how many wait after it.
+///
+/// # Errors
+/// [`Refusal::Unaligned`], [`Refusal::Unknown`] for a format above 5, [`Refusal::Label`], [`Refusal::NoRoom`] where no word stands at
+/// the place, [`Refusal::WrongForm`], [`Refusal::Taken`], [`Refusal::Again`], [`Refusal::Full`] for a count at or above 1,024 or the
+/// sheet's length.
+///
+/// ```
+/// use vaimalofo::{raw, Address, Place, Refusal, Use};
+///
+/// let (mut sheet, labels, start) = ([Use::default(); 1], [0; 4], Place::at(Address(0)));
+/// let mut add = |count, format| {
+///     raw::use_label(&mut sheet, count, &labels, &[0x14000000], start, 3, format)
+/// };
+/// assert_eq!(add(0, 6), Err(Refusal::Unknown));
+/// assert_eq!(add(0, 0), Ok(1));
+/// assert_eq!(add(1, 0), Err(Refusal::Again));
+/// assert_eq!(sheet, [Use { label: 3, at: 0, format: 0 }]);
+/// ```
+#[inline]
+pub fn use_label(
+    uses: &mut [Use],
+    count: usize,
+    labels: &[usize],
+    words: &[u32],
+    at: Place,
+    label: u32,
+    format: u32,
+) -> Result<usize, Refusal> {
+    Ok(answer(ffi::use_label((uses, count), labels, words, at, (label, format)))? as usize)
+}
+
+/// [`Uses::finish`](crate::Uses::finish) of the first `count` records of a sheet: how many wait after it, which is 0. The records stay.
+///
+/// # Errors
+/// [`Refusal::Unaligned`], [`Refusal::Full`] for a count above 1,024 or the sheet's length; then of the first use that has one, in the
+/// sheet's order, [`Refusal::Unknown`], [`Refusal::Label`], also for a label that is not bound, [`Refusal::NoRoom`] for a word or a
+/// label outside of the run, [`Refusal::WrongForm`], [`Refusal::Taken`], [`Refusal::Again`], [`Refusal::Step`], [`Refusal::Range`].
+///
+/// ```
+/// use vaimalofo::{raw, Address, Refusal, Use};
+///
+/// let (sheet, mut code) = ([Use { label: 3, at: 0, format: 0 }], [0x14000000, 0]);
+/// let mut finish = |count, label| {
+///     raw::finish_labels(&sheet, count, &[0, 0, 0, label], &mut code, Address(0))
+/// };
+/// assert_eq!(finish(2, 0), Err(Refusal::Full));
+/// assert_eq!(finish(1, 0), Err(Refusal::Label));
+/// assert_eq!(finish(1, 1 + 2), Ok(0));
+/// assert_eq!(code, [0x14000002, 0]);
+/// ```
+#[inline]
+pub fn finish_labels(
+    uses: &[Use],
+    count: usize,
+    labels: &[usize],
+    words: &mut [u32],
+    base: Address,
+) -> Result<usize, Refusal> {
+    Ok(answer(ffi::finish_labels((uses, count), labels, words, base))? as usize)
 }

@@ -3,7 +3,7 @@
 use core::error::Error;
 use core::fmt;
 
-/// Why a request was turned down, by document 01's numbers. Nothing that was lent has then changed. The functions of
+/// Why a request was turned down, by the numbers of the documents. Nothing that was lent has then changed. The functions of
 /// [`raw`](crate::raw) answer it, and [`Error::refusal`](crate::Error::refusal) gives it of an error.
 ///
 /// It prints as its number and the event:
@@ -17,7 +17,7 @@ use core::fmt;
 ///     "refusal 4: the distance is not a multiple of the format's step"
 /// );
 /// ```
-// A later request of document 02 has numbers of its own.
+// A later request may have more of them.
 #[derive(Clone, Copy, Debug, PartialEq, Eq, Hash)]
 #[non_exhaustive]
 #[repr(u8)]
@@ -44,8 +44,16 @@ pub enum Refusal {
     ZeroBase = 10,
     /// 11: the base word is not an instruction of this format.
     WrongForm = 11,
+    /// 12: there is no such label, or, at finishing, it is not bound.
+    Label = 12,
+    /// 13: the label is bound already.
+    Twice = 13,
+    /// 14: the sheet is full, or the count is above what the sheet may hold.
+    Full = 14,
     /// 15: the base address is not a multiple of 4.
     Unaligned = 15,
+    /// 16: an earlier use that waits names the same word.
+    Again = 16,
 }
 
 impl Refusal {
@@ -69,7 +77,11 @@ impl Refusal {
         Refusal::Index,
         Refusal::ZeroBase,
         Refusal::WrongForm,
+        Refusal::Label,
+        Refusal::Twice,
+        Refusal::Full,
         Refusal::Unaligned,
+        Refusal::Again,
     ];
 
     /// The number that stands for it at the C entries.
@@ -81,18 +93,17 @@ impl Refusal {
         self as u8
     }
 
-    /// The refusal of a number: 1 to 11, and 15. No other number is one's.
+    /// The refusal of a number: 1 to 16. No other number is one's.
     ///
     /// ```
     /// use vaimalofo::Refusal;
     ///
     /// assert_eq!(Refusal::from_number(15), Some(Refusal::Unaligned));
-    /// assert_eq!(Refusal::from_number(12), None);
+    /// assert_eq!(Refusal::from_number(17), None);
     /// ```
     pub const fn from_number(number: u8) -> Option<Refusal> {
         match number {
-            1..=11 => Some(Refusal::ALL[number as usize - 1]),
-            15 => Some(Refusal::Unaligned),
+            1..=16 => Some(Refusal::ALL[number as usize - 1]),
             _ => None,
         }
     }
@@ -115,7 +126,11 @@ impl Refusal {
             Refusal::Index => "the element index is above its limit",
             Refusal::ZeroBase => "the base opcode is zero",
             Refusal::WrongForm => "the base word is not an instruction of this format",
+            Refusal::Label => "there is no such label, or at finishing it is not bound",
+            Refusal::Twice => "the label is bound already",
+            Refusal::Full => "the sheet is full, or the count is above what it may hold",
             Refusal::Unaligned => "the base address is not a multiple of 4",
+            Refusal::Again => "an earlier use that waits names the same word",
         }
     }
 }

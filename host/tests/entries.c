@@ -1,6 +1,8 @@
 /* Each C entry: a value, each of its refusals in their order, and the bytes around what is written. */
 #include "vaimalofo.h"
 
+#include <stddef.h>
+
 #include <stdio.h>
 #include <string.h>
 
@@ -438,6 +440,179 @@ static void without_a_run(void) {
     same("read 7", (int64_t)vaimalofo_read_displacement(0, 6), VAIMALOFO_UNKNOWN);
 }
 
+/* The record that the library reads and writes, where the compiler puts each part of it. */
+typedef char use_has_24_bytes[sizeof(struct vaimalofo_use) == 24 ? 1 : -1];
+typedef char label_at_0[offsetof(struct vaimalofo_use, label) == 0 ? 1 : -1];
+typedef char at_at_8[offsetof(struct vaimalofo_use, at) == 8 ? 1 : -1];
+typedef char format_at_16[offsetof(struct vaimalofo_use, format) == 16 ? 1 : -1];
+
+/* A table, a sheet and a run, each with more behind it that is not lent, and a copy of all as it was. */
+enum { TABLE = 300, SHEET = 1100, RUN = 9000, BEHIND = 4 };
+struct lent {
+    size_t labels[TABLE + BEHIND];
+    struct vaimalofo_use uses[SHEET + BEHIND];
+    uint32_t words[RUN + BEHIND];
+};
+static struct lent lent, lent_before;
+
+enum { B = 0x14000000, CBZ = 0x34000003, TBZ = 0x36000003 };
+
+static struct vaimalofo_use use_of(uint32_t label, size_t at, uint32_t format) {
+    struct vaimalofo_use one;
+    memset(&one, 0, sizeof one);
+    one.label = label;
+    one.at = at;
+    one.format = format;
+    return one;
+}
+
+/* All labels unbound, records that mean nothing, and a run of one word. */
+static void lend(uint32_t word) {
+    memset(&lent, 0, sizeof lent);
+    for (size_t i = 0; i < SHEET + BEHIND; i++) lent.uses[i] = use_of(UINT32_MAX, SIZE_MAX, UINT32_MAX);
+    for (size_t i = 0; i < RUN + BEHIND; i++) lent.words[i] = word;
+    lent_before = lent;
+}
+
+/* The answer, and of what was lent as much changed as `lent_before` says. */
+static void answered(const char *what, uint64_t answer, uint64_t expected) {
+    same(what, (int64_t)answer, (int64_t)expected);
+    same(what, memcmp(lent.labels, lent_before.labels, sizeof lent.labels), 0);
+    same(what, memcmp(lent.words, lent_before.words, sizeof lent.words), 0);
+    for (size_t i = 0; i < SHEET + BEHIND; i++) {
+        const struct vaimalofo_use *one = lent.uses + i, *old = lent_before.uses + i;
+        if (one->label != old->label || one->at != old->at || one->format != old->format) same(what, (int64_t)i, -1);
+    }
+}
+
+static uint64_t bind(size_t table, size_t run, uint64_t base, size_t position, uint32_t label) {
+    return vaimalofo_bind_label(lent.labels, table, lent.words, run, base, position, label);
+}
+
+static uint64_t add(size_t sheet, size_t count, size_t run, uint64_t base, size_t position, uint32_t label, uint32_t format) {
+    return vaimalofo_use_label(lent.uses, sheet, count, label, format, lent.labels, 4, lent.words, run, base, position);
+}
+
+static uint64_t finish(size_t sheet, size_t count, size_t run, uint64_t base) {
+    return vaimalofo_finish_labels(lent.uses, sheet, count, lent.labels, 4, lent.words, run, base);
+}
+
+static void bound(uint64_t base) {
+    lend(B);
+    lent_before.labels[3] = 1 + 8;
+    answered("bind, end", bind(4, 8, base, 8, 3), 0);
+    lent_before.labels[0] = 1;
+    answered("bind, start", bind(4, 8, base, 0, 0), 0);
+    lent_before.labels[255] = 1 + 2;
+    answered("bind, last", bind(TABLE, 8, base, 2, 255), 0);
+    for (uint64_t off = 1; off < 4; off++) answered("bind 15, 12, 8", bind(4, 8, base + off, 9, 4), VAIMALOFO_UNALIGNED);
+    answered("bind 15, 13, 8", bind(4, 8, base + 2, 9, 3), VAIMALOFO_UNALIGNED);
+    answered("bind 12, 8", bind(4, 8, base, 9, 4), VAIMALOFO_LABEL);
+    answered("bind 12, long table", bind(TABLE, 8, base, 0, 256), VAIMALOFO_LABEL);
+    answered("bind 12, greatest", bind(TABLE, 8, base, 0, UINT32_MAX), VAIMALOFO_LABEL);
+    answered("bind 12, no table", bind(0, 8, base, 0, 0), VAIMALOFO_LABEL);
+    answered("bind 13, 8", bind(4, 8, base, 9, 3), VAIMALOFO_TWICE);
+    answered("bind 8", bind(4, 8, base, 9, 1), VAIMALOFO_NO_ROOM);
+    answered("bind 8, greatest", bind(4, 8, base, SIZE_MAX, 1), VAIMALOFO_NO_ROOM);
+    answered("bind 8, no word", bind(4, 0, base, 1, 1), VAIMALOFO_NO_ROOM);
+    lent_before.labels[1] = 1;
+    answered("bind, no word", bind(4, 0, base, 0, 1), 0);
+}
+
+static void used(uint64_t base) {
+    lend(CBZ);
+    lent.words[6] = lent_before.words[6] = CBZ + 0x20;
+    lent.words[7] = lent_before.words[7] = UINT32_MAX;
+    lent_before.uses[0] = use_of(3, 5, VAIMALOFO_BRANCH_19);
+    answered("use", add(2, 0, 8, base, 5, 3, VAIMALOFO_BRANCH_19), 256);
+    answered("use 15", add(1, 1, 8, base + 1, 8, 4, 6), VAIMALOFO_UNALIGNED);
+    answered("use 7", add(1, 1, 8, base, 8, 4, 6), VAIMALOFO_UNKNOWN);
+    answered("use 7, greatest", add(1, 1, 8, base, 8, 4, UINT32_MAX), VAIMALOFO_UNKNOWN);
+    answered("use 12", add(1, 1, 8, base, 8, 4, 1), VAIMALOFO_LABEL);
+    answered("use 8", add(1, 1, 8, base, 8, 3, 1), VAIMALOFO_NO_ROOM);
+    answered("use 8, greatest", add(1, 1, 8, base, SIZE_MAX, 3, 1), VAIMALOFO_NO_ROOM);
+    answered("use 11", add(1, 1, 8, base, 7, 3, 1), VAIMALOFO_WRONG_FORM);
+    answered("use 11, another", add(1, 1, 8, base, 5, 3, 0), VAIMALOFO_WRONG_FORM);
+    answered("use 6", add(1, 1, 8, base, 6, 3, 1), VAIMALOFO_TAKEN);
+    answered("use 16", add(1, 1, 8, base, 5, 3, 1), VAIMALOFO_AGAIN);
+    answered("use 14", add(1, 1, 8, base, 4, 3, 1), VAIMALOFO_FULL);
+    answered("use 14, no sheet", add(0, 0, 8, base, 4, 3, 1), VAIMALOFO_FULL);
+    answered("use 14, count above", add(1, 2, 8, base, 4, 3, 1), VAIMALOFO_FULL);
+    answered("use 14, greatest", add(1, SIZE_MAX, 8, base, 4, 3, 1), VAIMALOFO_FULL);
+    answered("use 16, greatest", add(1, SIZE_MAX, 8, base, 5, 3, 1), VAIMALOFO_AGAIN);
+    lent_before.uses[1] = use_of(0, 4, VAIMALOFO_BRANCH_19);
+    answered("use, second", add(2, 1, 8, base, 4, 0, VAIMALOFO_BRANCH_19), 2 * 256);
+    lent_before.uses[0] = use_of(0, 5, VAIMALOFO_BRANCH_19);
+    answered("use, none waits", add(2, 0, 8, base, 5, 0, VAIMALOFO_BRANCH_19), 256);
+}
+
+/* Each refusal of a use that comes second, behind one that passes and before one that is refused otherwise. */
+static void finish_refused(uint64_t base) {
+    const struct {
+        struct vaimalofo_use wrong;
+        unsigned refusal;
+    } cases[] = {
+        {use_of(4, RUN, 6), VAIMALOFO_UNKNOWN}, {use_of(4, RUN, 2), VAIMALOFO_LABEL}, {use_of(2, RUN, 2), VAIMALOFO_LABEL},
+        {use_of(3, RUN, 2), VAIMALOFO_NO_ROOM}, {use_of(1, 7, 2), VAIMALOFO_NO_ROOM}, {use_of(3, 7, 2), VAIMALOFO_WRONG_FORM},
+        {use_of(3, 5, 1), VAIMALOFO_WRONG_FORM}, {use_of(3, 6, 2), VAIMALOFO_TAKEN}, {use_of(3, 5, 2), VAIMALOFO_AGAIN},
+        {use_of(3, 4, 2), VAIMALOFO_RANGE},
+    };
+    const size_t count = sizeof cases / sizeof *cases;
+    for (size_t i = 0; i < count * count; i++) {
+        lend(TBZ);
+        lent.labels[0] = 1;
+        lent.labels[1] = 1 + RUN + 1;
+        lent.labels[3] = 1 + RUN;
+        lent.words[6] = TBZ + 0x20;
+        lent.words[7] = UINT32_MAX;
+        lent.uses[0] = use_of(0, 5, 2);
+        lent.uses[1] = cases[i % count].wrong;
+        lent.uses[2] = cases[i / count].wrong;
+        lent_before = lent;
+        answered("finish", finish(3, 3, RUN, base), cases[i % count].refusal);
+        answered("finish 14", finish(3, 4, RUN, base), VAIMALOFO_FULL);
+        answered("finish 14, greatest", finish(3, SIZE_MAX, RUN, base), VAIMALOFO_FULL);
+        answered("finish 15", finish(3, 4, RUN, base + 3), VAIMALOFO_UNALIGNED);
+        answered("finish, none", finish(0, 0, RUN, base), 0);
+    }
+}
+
+/* Of each format two words, forward and back, as vaimalofo_displacement_to makes them; at the sheet's limit, and again. */
+static void finished(uint64_t base) {
+    static const uint32_t bases[] = {0x94000000, 0xB500001F, 0xB7F8001F, 0x1000001F, 0x9000001F, 0x9C00001F};
+    for (uint32_t format = 0; format < 6; format++) {
+        lend(bases[format]);
+        lent.labels[0] = lent_before.labels[0] = 1 + 1;
+        lent.labels[3] = lent_before.labels[3] = 1 + 8;
+        lent_before.uses[0] = use_of(3, 2, format);
+        answered("use, forward", add(2, 0, 8, base, 2, 3, format), 256);
+        lent_before.uses[1] = use_of(0, 7, format);
+        answered("use, back", add(2, 1, 8, base, 7, 0, format), 2 * 256);
+        uint8_t *expected = (uint8_t *)lent_before.words;
+        const uint64_t start = vaimalofo_address(base, 1), end = vaimalofo_address(base, 8);
+        same("forward", (int64_t)vaimalofo_words(vaimalofo_displacement_to(expected, 32, base, 2, format, bases[format], end)), 1);
+        same("back", (int64_t)vaimalofo_words(vaimalofo_displacement_to(expected, 32, base, 7, format, bases[format], start)), 1);
+        answered("finish", finish(2, 2, 8, base), 0);
+        /* Of a page to itself the distance is 0, so that the field is clear still. */
+        answered("finish again", finish(2, 2, 8, base), format == VAIMALOFO_ADRP_21 ? 0 : VAIMALOFO_TAKEN);
+    }
+}
+
+static void filled(void) {
+    lend(B);
+    lent.labels[0] = lent_before.labels[0] = 1;
+    for (size_t round = 0; round < 2; round++) {
+        const size_t first = 1 + round * VAIMALOFO_USES;
+        for (size_t i = 0; i < VAIMALOFO_USES; i++) same("fill", (int64_t)add(SHEET, i, RUN, 0, first + i, 0, 0), (int64_t)(i + 1) * 256);
+        for (size_t i = 0; i < VAIMALOFO_USES; i++) lent_before.uses[i] = use_of(0, first + i, 0);
+        answered("full", add(SHEET, VAIMALOFO_USES, RUN, 0, RUN - 1, 0, 0), VAIMALOFO_FULL);
+        answered("full, again", add(SHEET, VAIMALOFO_USES, RUN, 0, first + VAIMALOFO_USES - 1, 0, 0), VAIMALOFO_AGAIN);
+        answered("too full", finish(SHEET, VAIMALOFO_USES + 1, RUN, 0), VAIMALOFO_FULL);
+        for (size_t i = 0; i < VAIMALOFO_USES; i++) lent_before.words[first + i] = B | (0x4000000 - (uint32_t)(first + i));
+        answered("finish all", finish(SHEET, VAIMALOFO_USES, RUN, 0), 0);
+    }
+}
+
 int main(void) {
     const uint64_t bases[] = {0, 4, last};
     for (size_t i = 0; i < sizeof bases / sizeof *bases; i++) {
@@ -447,8 +622,13 @@ int main(void) {
         targets(bases[i]);
         again(bases[i]);
         again_refused(bases[i]);
+        bound(bases[i]);
+        used(bases[i]);
+        finish_refused(bases[i]);
+        finished(bases[i]);
         for (uint64_t off = 1; off < 4; off++) unaligned(bases[i] + off);
     }
+    filled();
     pages();
     again_pages();
     addresses();

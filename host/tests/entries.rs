@@ -929,12 +929,11 @@ fn words_leave_the_tail_out() {
     assert!(words(&bytes).rev().eq([0x08070605, 0x04030201]));
 }
 
-/// The numbers 12 to 14 are no refusal's.
 #[test]
 fn refusals_print_in_words() {
     let all = || Refusal::ALL.iter().copied();
     let numbers: Vec<u8> = all().map(Refusal::number).collect();
-    assert_eq!(numbers, [1, 2, 3, 4, 5, 6, 7, 8, 9, 10, 11, 15]);
+    assert!(numbers.into_iter().eq(1..=16));
     for number in 0..=u8::MAX {
         let found = all().find(|refusal| refusal.number() == number);
         assert_eq!(Refusal::from_number(number), found);

@@ -12,5 +12,6 @@ pub mod document;
 pub mod lists;
 pub mod replay;
 pub mod rust;
+pub mod scripts;
 
 pub(crate) use standins::AsmError;

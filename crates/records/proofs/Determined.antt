@@ -11,7 +11,8 @@ use lib.Dec.{eqb, ltb, leb}
 use lib.ListN.{length}
 use Rattle.arm.proofs.Tests.{never}
 use Rattle.words.specs.Listed.{wordsOf}
-use Rattle.words.proofs.Answers.{refusalOf, refusal-back}
+use Rattle.words.specs.Answer.{refusalOf}
+use Rattle.words.proofs.Answers.{refusal-back}
 use Rattle.words.proofs.Contracts.{OneAnswer, one-answer}
 use Rattle.lines.specs.Item.{Item, words, numbers, no, badMark, cutAt, itemsOf}
 use Rattle.lines.specs.declared.Answer.{Answer}

@@ -6,10 +6,10 @@ use native.Mathlib.Omega.{arith}
 use lib.Dec.{lit≤}
 use lib.ListN.{length, getD}
 use Rattle.words.specs.Said.{Said, ok, no}
-use Rattle.words.specs.Answer.{numberOf, IsNumber, said, made}
+use Rattle.words.specs.Answer.{numberOf, refusalOf, IsNumber, said, made}
 use Rattle.words.specs.Listed.{listOf, wordsOf, listed, packed}
 use Rattle.words.specs.declared.Refusal.{Refusal}
-use Rattle.words.specs.declared.Refusal.the-variants.{Width, Register, NoField, Step, Range, Taken, Unknown, NoRoom, Index, ZeroBase, WrongForm, Unaligned}
+use Rattle.words.specs.declared.Refusal.the-variants.{Width, Register, NoField, Step, Range, Taken, Unknown, NoRoom, Index, ZeroBase, WrongForm, Label, Twice, Full, Unaligned, Again}
 use Rattle.words.specs.declared.Worded.{Worded}
 use Rattle.words.specs.declared.Worded.the-variants.{Made, Not}
 use Rattle.words.specs.declared.Written.{Written}
@@ -20,14 +20,6 @@ use Rattle.words.specs.declared.Written.the-variants.{Done, No}
 -- two things are one where the same is said of them, and each can be made of that again
 pub all-said : {X Y : Type 0} (say : X → Y) (unsay : Y → X) → ((x : X) → unsay (say x) ≡ x) → (r s : X) → say r ≡ say s → r ≡ s
 all-said say unsay back r s e = sym (back r) ∙ ap unsay e ∙ back s
-
--- by number; where there is none, any
-abbrev refusals : List Refusal
-refusals = Width ∷ Width ∷ Register ∷ NoField ∷ Step ∷ Range ∷ Taken ∷ Unknown ∷ NoRoom ∷ Index ∷ ZeroBase ∷ WrongForm ∷ Width ∷ Width ∷ Width ∷ Unaligned ∷ []
-
--- the refusal of a number
-abbrev pub refusalOf : ℕ → Refusal
-refusalOf n = getD refusals n Width
 
 pub refusal-back : (r : Refusal) → refusalOf (numberOf r) ≡ r
 refusal-back Width = refl
@@ -41,17 +33,21 @@ refusal-back NoRoom = refl
 refusal-back Index = refl
 refusal-back ZeroBase = refl
 refusal-back WrongForm = refl
+refusal-back Label = refl
+refusal-back Twice = refl
+refusal-back Full = refl
 refusal-back Unaligned = refl
+refusal-back Again = refl
 
 -- a number is one refusal's
 pub number-all : (r s : Refusal) → numberOf r ≡ numberOf s → r ≡ s
 number-all = all-said numberOf refusalOf refusal-back
 
--- which is 1 at least, and fits four bits
-pub number-fits : {n : ℕ} → IsNumber n → (1 ≤ n) × (n < 16)
+-- which is 1 at least, and fits five bits
+pub number-fits : {n : ℕ} → IsNumber n → (1 ≤ n) × (n < 32)
 number-fits (r, e) = let h = go r in (omega arith, omega arith)
   where
-    go : (r : Refusal) → (1 ≤ numberOf r) × (numberOf r < 16)
+    go : (r : Refusal) → (1 ≤ numberOf r) × (numberOf r < 32)
     go Width = (lit≤ tt, lit≤ tt)
     go Register = (lit≤ tt, lit≤ tt)
     go NoField = (lit≤ tt, lit≤ tt)
@@ -63,6 +59,10 @@ number-fits (r, e) = let h = go r in (omega arith, omega arith)
     go Index = (lit≤ tt, lit≤ tt)
     go ZeroBase = (lit≤ tt, lit≤ tt)
     go WrongForm = (lit≤ tt, lit≤ tt)
+    go Label = (lit≤ tt, lit≤ tt)
+    go Twice = (lit≤ tt, lit≤ tt)
+    go Full = (lit≤ tt, lit≤ tt)
+    go Again = (lit≤ tt, lit≤ tt)
     go Unaligned = (lit≤ tt, lit≤ tt)
 
 -- an answer of two cases: a value, and a refusal

@@ -15,7 +15,7 @@ module _ {K : Type 0} {A R E : K → Type 0} where
   OneAnswer Post = (k : K) (a : A k) (r s : R k) (x y : E k) → Post k a r x → Post k a s y → r ≡ s
 
   -- and so is what a run that was lent then holds
-  abbrev pub OneWrite : ((k : K) → A k → R k → E k → Type 0) → ((k : K) → E k → List ℕ) → Type 0
+  abbrev pub OneWrite : {B : Type 0} → ((k : K) → A k → R k → E k → Type 0) → ((k : K) → E k → B) → Type 0
   OneWrite Post run = (k : K) (a : A k) (r s : R k) (x y : E k) → Post k a r x → Post k a s y → (r ≡ s) × (run k x ≡ run k y)
 
 -- ---- by an equation

@@ -6,7 +6,7 @@ ghost use Prim.Native.Nat.{_%_, _^_, min};
 ghost use mir.Syntax.{w64};
 ghost use mir.Val.{toZ, ofZ};
 ghost use Rattle.arm.specs.Bits.{Ones};
-ghost use Rattle.words.specs.Answer.{numberOf};
+ghost use Rattle.words.specs.Answer.{numberOf, refusalOf};
 ghost use Rattle.words.specs.Bit.{bitOf};
 ghost use Rattle.words.specs.Listed.{wordsOf};
 ghost use Rattle.words.specs.Place.{addressOf};
@@ -42,7 +42,11 @@ pub enum Refusal {
     Index,
     ZeroBase,
     WrongForm,
+    Label,
+    Twice,
+    Full,
     Unaligned,
+    Again,
 }
 
 // Up to four words: a, b, c, d, as many as the count says.
@@ -81,8 +85,41 @@ pub fn number(r: Refusal) -> u32
         Refusal::Index => 9,
         Refusal::ZeroBase => 10,
         Refusal::WrongForm => 11,
+        Refusal::Label => 12,
+        Refusal::Twice => 13,
+        Refusal::Full => 14,
         Refusal::Unaligned => 15,
+        Refusal::Again => 16,
     }
+}
+
+// The refusals by their numbers; 0 is none's.
+const BY_NUMBER: [Refusal; 17] = [
+    Refusal::Width,
+    Refusal::Width,
+    Refusal::Register,
+    Refusal::NoField,
+    Refusal::Step,
+    Refusal::Range,
+    Refusal::Taken,
+    Refusal::Unknown,
+    Refusal::NoRoom,
+    Refusal::Index,
+    Refusal::ZeroBase,
+    Refusal::WrongForm,
+    Refusal::Label,
+    Refusal::Twice,
+    Refusal::Full,
+    Refusal::Unaligned,
+    Refusal::Again,
+];
+
+// The refusal that has a number; the first one where none has it.
+pub fn numbered(n: u32) -> Refusal
+    ensures { λ r. ⌜ r ≡ refusalOf n ⌝ }
+{
+    let i = n as usize;
+    if i < 17 { BY_NUMBER[i] } else { Refusal::Width }
 }
 
 // The address of the word at a place. The sum wraps, and of the position only the low 62 bits count: four times the rest is whole turns.
@@ -144,6 +181,13 @@ pub fn bit_test(value: u32, n: u32) -> bool
         return (value >> n) % 2 == 1;
     }
     false
+}
+
+// The smaller of two numbers.
+pub fn least(a: usize, b: usize) -> usize
+    ensures { λ r. ⌜ r ≡ min a b ⌝ }
+{
+    if a < b { a } else { b }
 }
 
 // n ones from bit 0 on, and no more than 64.

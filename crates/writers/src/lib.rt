@@ -40,12 +40,6 @@ fn past(at: Place, n: usize) -> Place
     }
 }
 
-fn least(a: usize, b: usize) -> usize
-    ensures { λ r. ⌜ r ≡ min a b ⌝ }
-{
-    if a < b { a } else { b }
-}
-
 // Whether a run of so many words has n of them from word i on.
 fn fits(room: usize, i: usize, n: usize) -> bool
     ensures { λ r. ⌜ r ≡ leb (i + n) room ⌝ }
@@ -68,7 +62,7 @@ fn store(words: &mut [u32], i: usize, last: usize, k: usize, w: u32)
     requires { ⌜ i + last < length (now words) ⌝ }
     ensures { λ _. ⌜ now (words .exit) ≡ set (now (words .entry)) (i + min k last) w ⌝ }
 {
-    place(words, i + least(k, last), w);
+    place(words, i + words::least(k, last), w);
 }
 
 // The words are stored from last to first with no test of their number: one that is not in the list goes to the last place, where the last
@@ -90,7 +84,7 @@ fn store_all(words: &mut [u32], i: usize, n: usize, f: Words)
 fn put_words(words: &mut [u32], at: Place, f: Words) -> Written
     ensures { λ r. ⌜ (said r, now (words .exit)) ≡ atBase (at .base) (putAt (now (words .entry)) (at .position .0) (Said.ok (listOf f))) ⌝ }
 {
-    let n = least(f.count, 4);
+    let n = words::least(f.count, 4);
     if fits(words.len(), at.position.0, n) {
         store_all(words, at.position.0, n, f);
         return Written::Done(past(at, n));
@@ -120,7 +114,7 @@ fn store_bytes(bytes: &mut [u8], i: usize, last: usize, k: usize, w: u32)
     requires { ⌜ (i + last) * 4 + 4 ≤ length (now bytes) ⌝ }
     ensures { λ _. ⌜ now (bytes .exit) ≡ sets (now (bytes .entry)) ((i + min k last) * 4) (bytesOf w) ⌝ }
 {
-    let j = (i + least(k, last)) * 4;
+    let j = (i + words::least(k, last)) * 4;
     place_byte(bytes, j, (w % 256) as u8);
     place_byte(bytes, j + 1, (w / 256 % 256) as u8);
     place_byte(bytes, j + 2, (w / 65536 % 256) as u8);
@@ -144,7 +138,7 @@ fn store_all_bytes(bytes: &mut [u8], i: usize, n: usize, f: Words)
 fn put_words_bytes(bytes: &mut [u8], at: Place, f: Words) -> Written
     ensures { λ r. ⌜ (said r, now (bytes .exit)) ≡ atBase (at .base) (putBytesAt (now (bytes .entry)) (at .position .0) (Said.ok (listOf f))) ⌝ }
 {
-    let n = least(f.count, 4);
+    let n = words::least(f.count, 4);
     if fits(bytes.len() / 4, at.position.0, n) {
         store_all_bytes(bytes, at.position.0, n, f);
         return Written::Done(past(at, n));

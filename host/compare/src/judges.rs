@@ -12,7 +12,7 @@ use std::process::{Command, Stdio};
 use oracle::document::displacements::{page, FORMATS};
 use oracle::document::logical::masks;
 use oracle::lists::random::Random;
-use vaimalofo::{raw, Address, Place, Reached, Refusal, WordPos};
+use vaimalofo::{raw, Address, Place, Reached, Refusal, Use, WordPos};
 
 use crate::parts::own_base;
 use crate::retargets::any_field;
@@ -24,6 +24,9 @@ const BATCH: usize = 20_000;
 /// Words asked for their form, for each sample of another kind.
 const FORMS: usize = 50;
 
+/// Whole programs with labels, whatever the samples are.
+const PROGRAMS: u64 = 20;
+
 /// Every judge with `samples` of its kind; whether none of them found a difference.
 pub fn run(samples: usize) -> bool {
     let moved = judged("moves_qemu.py", "moves, run under qemu-aarch64", &moves(samples));
@@ -34,7 +37,9 @@ pub fn run(samples: usize) -> bool {
         judged("targets_ld.py", "targets, ADRPs with their low bits, by GNU ld", &targets(samples));
     let formed =
         judged("forms_objdump.py", "words at all formats, by objdump", &forms(samples * FORMS));
-    moved && logical && near && reached && formed
+    let labelled =
+        judged("labels_as.py", "whole programs with labels, by GNU as and ld", &programs());
+    moved && logical && near && reached && formed && labelled
 }
 
 /// One judge's verdict on the lines, batch by batch. A missing tool or script is said and is no failure.
@@ -239,4 +244,81 @@ fn form_line(word: u32) -> String {
     }
     let said = if said.is_empty() { "-" } else { &said };
     format!("{word:08x} 012345 {said}\n")
+}
+
+/// `ADDRESS LABELS WORDS FINISHED`: programs whose words reach labels, forward and backward, at all formats: the first with 1,024 words that
+/// do, the others with up to so many, between words that do not. Labels are bound and used in any order, and the sheet is finished once.
+fn programs() -> Vec<String> {
+    (0..PROGRAMS).map(|i| program(&mut Random::new((18 << 48) + i), i)).collect()
+}
+
+fn program(random: &mut Random, i: u64) -> String {
+    let uses = if i == 0 { 1024 } else { 1 + random.below(1024) as usize };
+    let words = uses + random.below(2048) as usize;
+    let labels = 1 + random.below(256) as usize;
+    // Every fourth at the end of all addresses, which some of them wrap around.
+    let base = match i % 4 {
+        0 => Address((4 * random.below(2 * words as u64)).wrapping_neg()),
+        _ => Address(random.value() >> random.one_of(&[0, 0, 32, 44]) & !3),
+    };
+    let at = |position| Place { base, position: WordPos(position) };
+    let mut run: Vec<u32> = (0..words).map(|_| random.value() as u32).collect();
+    let (mut table, mut sheet) = (vec![0; labels], vec![Use::default(); uses]);
+    let mut reaching = positions(words, uses, random);
+    let mut unbound: Vec<u32> = (0..labels as u32).collect();
+    let mut reached = vec![None; words];
+    for count in 0..uses {
+        // The labels are bound on the way.
+        if random.below(2) == 0 {
+            bind_one(&mut table, &run, base, &mut unbound, random);
+        }
+        let position = reaching.pop().expect("there are as many as uses");
+        let (format, label) = (random.below(6) as u32, random.below(labels as u64) as u32);
+        run[position] = own_base(format as usize, random);
+        reached[position] = Some(label);
+        let added = raw::use_label(&mut sheet, count, &table, &run, at(position), label, format);
+        assert_eq!(added, Ok(count + 1), "use {count} of program {i}");
+    }
+    while !unbound.is_empty() {
+        bind_one(&mut table, &run, base, &mut unbound, random);
+    }
+    let before = run.clone();
+    let finished = raw::finish_labels(&sheet, uses, &table, &mut run, base);
+    assert_eq!(finished, Ok(0), "finishing program {i}");
+    let bound = (0..labels).map(|label| format!("{label}@{}", table[label] - 1));
+    let written = before.iter().zip(&reached).map(|(word, label)| match label {
+        Some(label) => format!("{word:08x}>{label}"),
+        None => format!("{word:08x}"),
+    });
+    let given = run.iter().map(|word| format!("{word:08x}"));
+    let [bound, written, given] =
+        [bound.collect::<Vec<_>>(), written.collect(), given.collect()].map(|all| all.join(","));
+    format!("{:x} {bound} {written} {given}\n", base.0)
+}
+
+/// Some label that is not bound yet, if there is one, bound to any place of the run, its end too.
+fn bind_one(
+    table: &mut [usize],
+    run: &[u32],
+    base: Address,
+    unbound: &mut Vec<u32>,
+    random: &mut Random,
+) {
+    if unbound.is_empty() {
+        return;
+    }
+    let label = unbound.swap_remove(random.below(unbound.len() as u64) as usize);
+    let position = WordPos(random.below(run.len() as u64 + 1) as usize);
+    let bound = raw::bind_label(table, run, Place { base, position }, label);
+    assert_eq!(bound, Ok(()), "label {label}");
+}
+
+/// So many of the positions below a number, in any order.
+fn positions(below: usize, count: usize, random: &mut Random) -> Vec<usize> {
+    let mut all: Vec<usize> = (0..below).collect();
+    for i in 0..count {
+        all.swap(i, i + random.below((below - i) as u64) as usize);
+    }
+    all.truncate(count);
+    all
 }

@@ -3,11 +3,15 @@
 pub mod calls;
 pub mod decoder;
 pub mod judges;
+pub mod label_speed;
+pub mod labels;
 pub mod library;
 pub mod parts;
+pub mod plain_labels;
 pub mod retargets;
 pub mod small;
 pub mod tally;
+pub mod timing;
 pub mod values;
 pub mod work;
 

@@ -5,6 +5,7 @@ use std::time::Instant;
 
 use compare::decoder;
 use compare::judges;
+use compare::labels::{self, C_ENTRIES};
 use compare::parts::{self, Slice};
 use compare::retargets;
 use compare::small;
@@ -16,7 +17,7 @@ const USAGE: &str = "compare --short            a slice of everything, for the g
 compare --full             everything: all 2^32 values, all distances, 100 million mixed values
   --slice K/N              of --full only the items that leave K when divided by N (N odd)
   --only NAME              one part: fields, moves, bases, displacements, mixed, damaged, wrapping, unaligned, decoder, floats, singles,
-                           bytes, ids, retargets
+                           bytes, ids, retargets, labels
   --threads T              (else as many as there are processors)
 compare --judges [N]       N samples of each kind for GNU as and ld, objdump and qemu-aarch64 (else 20000)";
 
@@ -62,16 +63,24 @@ fn options(mut words: impl Iterator<Item = String>) -> Option<Options> {
 fn all_parts(options: &Options) -> Vec<Part> {
     let (values, distances, counts) = match options.full {
         true => {
-            let counts = [100_000_000, 100_000_000, 10_000_000, 10_000_000, 10_000_000, 10_000_000];
+            let counts = [
+                100_000_000,
+                100_000_000,
+                10_000_000,
+                10_000_000,
+                10_000_000,
+                10_000_000,
+                1_000_000,
+            ];
             (options.slice, options.slice, counts.map(|count| count / options.slice.by))
         }
         false => (
             Slice { rest: 41, by: 257 },
             Slice { rest: 5, by: 17 },
-            [500_000, 1_000_000, 100_000, 200_000, 200_000, 200_000],
+            [500_000, 1_000_000, 100_000, 200_000, 200_000, 200_000, 100_000],
         ),
     };
-    let [mixed, damaged, wrapping, unaligned, floats, bytes] = counts;
+    let [mixed, damaged, wrapping, unaligned, floats, bytes, scripts] = counts;
     vec![
         parts::fields_32(values),
         parts::moves_32(values),
@@ -87,6 +96,7 @@ fn all_parts(options: &Options) -> Vec<Part> {
         small::bytes(bytes),
         small::ids(values),
         retargets::retargets(distances),
+        labels::labels(scripts, C_ENTRIES),
     ]
 }
 
@@ -123,6 +133,12 @@ fn report(part: &Part, tally: &Tally, seconds: f64) {
     }
     if tally.alone > 0 {
         println!("  {:>12} as document 01; the Rust was not asked", tally.alone);
+    }
+    for ((call, refusal), count) in &tally.answers {
+        match refusal {
+            0 => println!("  {count:>12} times {call} accepted"),
+            _ => println!("  {count:>12} times {call} refused with {refusal}"),
+        }
     }
     for failure in &tally.failures {
         println!("  FAILED {failure}");

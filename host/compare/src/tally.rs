@@ -15,6 +15,8 @@ pub struct Tally {
     pub differs: BTreeMap<Class, u64>,
     /// The entry answered as document 01 does; the Rust was not asked.
     pub alone: u64,
+    /// How often the model gave each answer to a call, where a part counts them: the call's name and the refusal's number, 0 for none.
+    pub answers: BTreeMap<(&'static str, u32), u64>,
     /// Anything else.
     pub failed: u64,
     pub failures: Vec<String>,
@@ -23,6 +25,10 @@ pub struct Tally {
 impl Tally {
     pub fn differs(&mut self, class: Class) {
         *self.differs.entry(class).or_default() += 1;
+    }
+
+    pub fn answers(&mut self, call: &'static str, refusal: u32) {
+        *self.answers.entry((call, refusal)).or_default() += 1;
     }
 
     pub fn fails(&mut self, why: impl FnOnce() -> String) {
@@ -42,6 +48,9 @@ impl Tally {
         self.failed += other.failed;
         for (class, count) in other.differs {
             *self.differs.entry(class).or_default() += count;
+        }
+        for (answer, count) in other.answers {
+            *self.answers.entry(answer).or_default() += count;
         }
         self.failures.extend(other.failures);
         self.failures.truncate(SHOWN);

@@ -3,6 +3,7 @@
 
 pub mod displacements;
 pub mod immediates;
+pub mod labels;
 pub mod logical;
 pub mod moves;
 pub mod registers;

@@ -1,17 +1,16 @@
 //! speed: two million mixed values, each a move written into a run of bytes and its logical fields at width 64, with their element's
 //! length, by the C entries, by the Rust original, which has no length, and by a plain Rust program of document 01's rules; the same values,
 //! registers and run, in alternating rounds. Each argument is a shared object made of the library of another build, which is then a side
-//! too.
+//! too. Then a full sheet of uses of labels, recorded and finished, by the C entries and by a plain Rust program.
 
 use std::env;
-use std::fs;
 use std::hint::black_box;
 use std::process;
-use std::thread;
 use std::time::Instant;
 
 use compare::library::Library;
-use compare::{at_zero, put, values};
+use compare::timing::{fingerprint, median, ratio, timed};
+use compare::{at_zero, label_speed, put, values};
 use oracle::direct;
 use oracle::lists::random::Random;
 use vaimalofo::raw;
@@ -29,15 +28,6 @@ fn value_list() -> Vec<u64> {
             values::mixed(&mut random, kind)
         })
         .collect()
-}
-
-/// Nanoseconds that this thread has run on a processor; where the system does not say, nanoseconds that have passed. The system counts a
-/// thread's time when it gives way, and else by ticks of some milliseconds.
-fn now(began: Instant) -> u64 {
-    thread::yield_now();
-    let text = fs::read_to_string("/proc/thread-self/schedstat").unwrap_or_default();
-    let first = text.split(' ').next().and_then(|number| number.parse().ok());
-    first.unwrap_or(began.elapsed().as_nanos() as u64)
 }
 
 fn register(i: usize) -> u32 {
@@ -165,23 +155,6 @@ fn library_fields(library: Library, values: &[u64]) -> Sums {
     })
 }
 
-/// Words in one number that depends on each of them and on its place.
-fn fingerprint(bytes: &[u8]) -> u64 {
-    bytes.iter().fold(0, |sum: u64, byte| (sum ^ u64::from(*byte)).wrapping_mul(0x100_0000_01B3))
-}
-
-/// Seconds of a call.
-fn timed(began: Instant, call: impl FnOnce()) -> f64 {
-    let start = now(began);
-    call();
-    (now(began) - start) as f64 / 1e9
-}
-
-fn median(mut seconds: Vec<f64>) -> f64 {
-    seconds.sort_by(f64::total_cmp);
-    seconds[seconds.len() / 2]
-}
-
 fn main() {
     let began = Instant::now();
     let sides = sides(env::args().skip(1));
@@ -204,6 +177,7 @@ fn main() {
         }
     }
     report(&sides, &times, &totals);
+    label_speed::report(began);
 }
 
 fn report(sides: &[Side], times: &[[Vec<f64>; 3]], totals: &[(usize, u64, Sums)]) {
@@ -222,7 +196,7 @@ fn report(sides: &[Side], times: &[[Vec<f64>; 3]], totals: &[(usize, u64, Sums)]
             print!(" {:8.2}", median(seconds.clone()) * 1e9 / VALUES as f64);
         }
         for (seconds, of_one) in columns.iter().zip(&times[one]) {
-            print!(" {:8.3}", median(of_one.iter().zip(seconds).map(|(a, b)| a / b).collect()));
+            print!(" {:8.3}", ratio(of_one, seconds));
         }
         println!();
     }

@@ -1,0 +1,2 @@
+-- The one number that each of the entries for labels answers.
+pub mod Number

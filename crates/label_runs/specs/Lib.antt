@@ -1,0 +1,2 @@
+-- A sheet in three runs of numbers.
+pub mod Flat
