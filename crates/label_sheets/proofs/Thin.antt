@@ -15,7 +15,7 @@ use Rattle.labels.specs.Order.{first, orThen, answer}
 use Rattle.labels.specs.Sheet.{roomIn, names, mayUse, useOf, checkOf, filled, finishTests, finishOf, countedOf}
 use Rattle.labels.proofs.Tests.{Coded, first-then, or-none, or-stop, or-coded, counted-done, counted-kept}
 use Rattle.labels.proofs.Finishing.{finish-numbers, room-in}
-use Rattle.labels.proofs.Coded.{early-coded, early-room, check-coded, take-least, may-room, may-coded}
+use Rattle.labels.proofs.Coded.{take-least, may-room, may-coded, check-coded, early-coded, early-room}
 use Rattle.label_sheets.specs.Thin.{passedOf, addedOf}
 
 abbrev with-words : Said ℕ → List ℕ → Said ℕ × List ℕ
@@ -54,7 +54,7 @@ module _ (at : Place) (ls ws : List ℕ) (us : List Use) (n early m found r k : 
   abbrev all : ℕ
   all = checkOf at ls ws [] (take n us)
 
-  -- the number of the definition
+  -- where nothing refuses before, the uses that are checked are all
   found-is : early ≡ 0 → found ≡ all
   found-is z = go (goes-on n early m em)
     where
@@ -62,6 +62,7 @@ module _ (at : Place) (ls ws : List ℕ) (us : List Use) (n early m found r k : 
       go (inl (_, e)) = ef ∙ ap (λ (y : ℕ). checkOf at ls ws [] (take y us)) e
       go (inr (f, _)) = absurd (f z)
 
+  -- the number of the definition
   number-is : r ≡ first (finishTests at (length us) n) all
   number-is =
       er ∙ go (eqb early 0) refl ∙ ap (λ (y : ℕ). orThen y all) ee
@@ -92,13 +93,13 @@ module _ (at : Place) (ls ws : List ℕ) (us : List Use) (n early m found r k : 
           ap (with-words (countedOf 0 r)) (ez ∙ ap (λ (y : ℕ). filled at ls ws (take y us)) e) ∙ counted-done 0 r ws (filled at ls ws (take n us)) z
       go (inr (z, e)) =
           ap (with-words (countedOf 0 r)) (ez ∙ ap (λ (y : ℕ). filled at ls ws (take y us)) e)
-          ∙ counted-kept 0 r ws (filled at ls ws (take n us)) z (subst Coded (sym er) (or-coded early found first-code found-code))
+          ∙ counted-kept 0 r ws (filled at ls ws (take n us)) z (subst Coded (sym er) (or-coded early found of-early of-found))
         where
-          first-code : Coded early
-          first-code = subst Coded (sym ee) (early-coded at (length us) n)
+          of-early : Coded early
+          of-early = subst Coded (sym ee) (early-coded at (length us) n)
 
-          found-code : Coded found
-          found-code = subst Coded (sym ef) (check-coded at ls ws [] (take m us))
+          of-found : Coded found
+          of-found = subst Coded (sym ef) (check-coded at ls ws [] (take m us))
 
 -- ---- a use
 
