@@ -9,3 +9,5 @@ pub mod Edges
 pub mod Determined
 pub mod Entries
 pub mod Coded
+pub mod Steps
+pub mod Examples
