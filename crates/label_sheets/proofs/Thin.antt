@@ -16,7 +16,7 @@ use Rattle.labels.specs.Sheet.{roomIn, names, mayUse, useOf, checkOf, filled, f
 use Rattle.labels.proofs.Tests.{Coded, first-then, or-none, or-stop, or-coded, counted-done, counted-kept}
 use Rattle.labels.proofs.Finishing.{finish-numbers, room-in}
 use Rattle.labels.proofs.Coded.{take-least, may-room, may-coded, check-coded, early-coded, early-room}
-use Rattle.label_sheets.specs.Thin.{passedOf, addedOf}
+use Rattle.label_sheets.specs.Private.{passedOf, addedOf}
 
 abbrev with-words : Said ℕ → List ℕ → Said ℕ × List ℕ
 with-words x zs = (x, zs)

@@ -1,2 +1,2 @@
--- What the thin functions over a lent sheet decide by numbers.
-pub mod Thin
+-- What only the contracts of private functions cite.
+pub mod Private

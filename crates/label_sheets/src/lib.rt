@@ -9,7 +9,7 @@ ghost use Prim.Native.Nat.{_≤_};
 ghost use lib.ListN.{length, take};
 ghost use Rattle.labels.specs.Order.{orThen};
 ghost use Rattle.labels.specs.Sheet.{names, useAt, useOf, checkOf, filled, finishOf, countSaid};
-ghost use Rattle.label_sheets.specs.Thin.{passedOf, addedOf};
+ghost use Rattle.label_sheets.specs.Private.{passedOf, addedOf};
 
 // One of the first n uses names the word k.
 fn named(uses: &[Use], n: usize, k: usize) -> bool

@@ -51,7 +51,7 @@ use Rattle.labels.specs.Sheet.{checkOf, filled, finishTests, finishOf, countSai
 use Rattle.labels.proofs.Use as T
 use Rattle.labels.proofs.Counted as E
 use Rattle.labels.proofs.Counted.Laws as E′
-use Rattle.label_sheets.specs.Thin.{passedOf}
+use Rattle.label_sheets.specs.Private.{passedOf}
 use Rattle.label_sheets.proofs.Shared.{LentShared, lends-shared, shared-back}
 use Rattle.label_sheets.proofs.Thin.{held-le, passed-ok, finish-thin}
 use Rattle.labels.proofs.may_finish as may

@@ -57,7 +57,7 @@ use Rattle.labels.proofs.Use.Laws as T′
 use Rattle.labels.proofs.Counted as E
 use Rattle.labels.proofs.Counted.Laws as E′
 use Rattle.labels.proofs.Finishing.{none}
-use Rattle.label_sheets.specs.Thin.{addedOf}
+use Rattle.label_sheets.specs.Private.{addedOf}
 use Rattle.label_sheets.proofs.Steps.{differs}
 use Rattle.label_sheets.proofs.Shared.{LentShared, lends-shared, shared-back}
 use Rattle.label_sheets.proofs.Thin.{use-fits, use-taken, use-kept}

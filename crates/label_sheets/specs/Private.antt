@@ -1,4 +1,4 @@
--- What only the contracts of private functions cite: decisions by numbers. Assumes nothing.
+-- What only the contracts of private functions cite: what is decided by numbers. Assumes nothing.
 use mathlib.Core.Bool.{cond}
 use Prim.Native.Nat.{ℕ, _+_, _-_, _^_}
 use lib.Dec.{eqb, ltb}
