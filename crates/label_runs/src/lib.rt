@@ -1,5 +1,5 @@
 // Request b of document 02: uses of labels that wait in three lent runs of numbers, and how they are finished. What is decided of one use stands in
-// `labels`.
+// `label_uses`.
 use labels::Counted;
 use labels::Use;
 use words::Place;
@@ -46,7 +46,7 @@ fn check(
             format: formats[i],
         };
         let again = named(ats, i, u.at);
-        let r = labels::use_number(labels, words, at, u, again);
+        let r = label_uses::use_number(labels, words, at, u, again);
         if r != 0 {
             return r;
         }
@@ -76,7 +76,7 @@ fn write(
             at: k,
             format: formats[i],
         };
-        words[k] = labels::fixed_word(labels, at, u, words[k]);
+        words[k] = label_uses::fixed_word(labels, at, u, words[k]);
         i += 1;
     }
 }
@@ -109,7 +109,7 @@ pub fn use_flat(
     };
     let there = room(marks, ats, formats);
     let again = named(ats, words::least(n, there), u.at);
-    let r = labels::may_use(labels, words, at, u, again, n, there);
+    let r = label_uses::may_use(labels, words, at, u, again, n, there);
     if r != 0 {
         return labels::answered(n, r);
     }

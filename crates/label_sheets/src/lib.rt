@@ -1,5 +1,5 @@
 // Request b of document 02: uses of labels that wait in a lent sheet, a slice of use records, and how they are finished. The functions over the sheet
-// fetch and store; what is decided of one use stands in `labels`, and of the numbers that they carry in the small functions here.
+// fetch and store; what is decided of one use stands in `label_uses`, and of the numbers that they carry in the small functions here.
 use labels::Counted;
 use labels::Use;
 use words::Place;
@@ -35,7 +35,7 @@ fn check_uses(uses: &[Use], n: usize, labels: &[usize], words: &[u32], at: Place
     while i < n {
         let u = uses[i];
         let again = named(uses, i, u.at);
-        let r = labels::use_number(labels, words, at, u, again);
+        let r = label_uses::use_number(labels, words, at, u, again);
         if r != 0 {
             return r;
         }
@@ -53,7 +53,7 @@ fn write_uses(uses: &[Use], n: usize, labels: &[usize], words: &mut [u32], at: P
     while i < n {
         let u = uses[i];
         let k = u.at;
-        let w = labels::fixed_word(labels, at, u, words[k]);
+        let w = label_uses::fixed_word(labels, at, u, words[k]);
         words[k] = w;
         i += 1;
     }
@@ -125,7 +125,7 @@ pub fn use_label(
     let there = uses.len();
     let m = words::least(n, there);
     let again = named(uses, m, u.at);
-    let r = labels::may_use(labels, words, at, u, again, n, there);
+    let r = label_uses::may_use(labels, words, at, u, again, n, there);
     if r == 0 {
         uses[n] = u;
     }

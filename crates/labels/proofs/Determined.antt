@@ -8,10 +8,10 @@ use Rattle.labels.specs.declared.Binding.the-variants.{Bound, NotBound}
 use Rattle.labels.specs.declared.Counted.{Counted}
 use Rattle.labels.specs.declared.Counted.the-variants.{Count, Kept}
 use Rattle.labels.specs.Sheet.{bindingSaid, countSaid}
+use Rattle.labels.proofs.is_label.Reads as is-label
+use Rattle.labels.proofs.is_aligned.Reads as is-aligned
 use Rattle.labels.proofs.bind.Reads as bind
-use Rattle.labels.proofs.may_use.Reads as may-use
-use Rattle.labels.proofs.use_number.Reads as use-number
-use Rattle.labels.proofs.fixed_word.Reads as fixed-word
+use Rattle.labels.proofs.has_room.Reads as has-room
 use Rattle.labels.proofs.may_finish.Reads as may-finish
 use Rattle.labels.proofs.answered.Reads as answered
 
@@ -29,17 +29,17 @@ count-back (Kept r) = ap Kept (refusal-back r)
 pub count-all : (r s : Counted) → countSaid r ≡ countSaid s → r ≡ s
 count-all = all-said countSaid (either Count Kept) count-back
 
+pub is-label-determined : OneAnswer is-label.Post
+is-label-determined k a r s x y p q = one-answer p q
+
+pub is-aligned-determined : OneAnswer is-aligned.Post
+is-aligned-determined k a r s x y p q = one-answer p q
+
 pub bind-determined : OneWrite bind.Post (λ k x. now (x .0))
 bind-determined k a r s x y p q = let e = one-pair p q in (binding-all r s (e .0), e .1)
 
-pub may-use-determined : OneAnswer may-use.Post
-may-use-determined k a r s x y p q = one-answer p q
-
-pub use-number-determined : OneAnswer use-number.Post
-use-number-determined k a r s x y p q = one-answer p q
-
-pub fixed-word-determined : OneAnswer fixed-word.Post
-fixed-word-determined k a r s x y p q = one-answer p q
+pub has-room-determined : OneAnswer has-room.Post
+has-room-determined k a r s x y p q = one-answer p q
 
 pub may-finish-determined : OneAnswer may-finish.Post
 may-finish-determined k a r s x y p q = one-answer p q

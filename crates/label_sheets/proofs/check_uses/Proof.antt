@@ -60,10 +60,10 @@ use Rattle.labels.proofs.Finishing.{none}
 use Rattle.labels.proofs.Turns.{checkAt, number-on, number-bad, number-end}
 use Rattle.labels.proofs.Use as T
 use Rattle.labels.proofs.Use.Laws as T′
-use Rattle.labels.proofs.use_number as num
-use Rattle.labels.proofs.use_number.Symbol as num-def
-use Rattle.labels.proofs.use_number.Symbol.{name as #labels·use-number}
-use Rattle.labels.proofs.use_number.Met as num-thm
+use Rattle.label_uses.proofs.use_number as num
+use Rattle.label_uses.proofs.use_number.Symbol as num-def
+use Rattle.label_uses.proofs.use_number.Symbol.{name as #label-uses·use-number}
+use Rattle.label_uses.proofs.use_number.Met as num-thm
 use Rattle.label_sheets.proofs.Steps.{rest, differs, zero-is, place-typed}
 use Rattle.label_sheets.proofs.named as scan
 use Rattle.label_sheets.proofs.named.Symbol as scan-def
@@ -109,7 +109,7 @@ module _ {M : Type 1} (𝓤 : URA M) (H : Heap 𝓤) (A : Atoms 𝓤) (mem : Mem
 
   -- the callees meet them
   abbrev Known : Calls 𝓤 H → Type 1
-  Known C = Triple 𝓤 (C #label-sheets·named) Scan × Triple 𝓤 (C #labels·use-number) Numb
+  Known C = Triple 𝓤 (C #label-sheets·named) Scan × Triple 𝓤 (C #label-uses·use-number) Numb
 
 module _ {M : Type 1} (𝓤 : URA M) (H : Heap 𝓤) (A : Atoms 𝓤) (W : Given 𝓤 H A) (mem : Memory → SProp 𝓤) (run : Routine → Fun 𝓤)
     (κ κ′ κ″ : Lft) (q q′ q″ : Share) (b o : ℕ) (γ : GName) (us : List Use) (m : ℕ) (b′ o′ : ℕ) (γ′ : GName) (ls : List ℕ)
@@ -404,6 +404,6 @@ check-uses-spec 𝓤 H 𝓜 𝓖 𝓡 =
     (cu-meets 𝓤 H (𝓖 .A) (givenOf 𝓤 H 𝓜 𝓖) (𝓜 .mem) (𝓡 .run) (tablesOf 𝓤 H 𝓜 (tables 𝓤 H 𝓜 𝓡 code.env)) (
       cited 𝓤 H (Scan 𝓤 H (𝓖 .A) (𝓜 .mem) (𝓡 .run)) 𝓜 𝓡 code.env #label-sheets·named scan-def.routine code.calls-label-sheets·named
           (scan-thm.met 𝓤 H 𝓜 𝓖 𝓡),
-      cited 𝓤 H (Numb 𝓤 H (𝓖 .A) (𝓜 .mem) (𝓡 .run)) 𝓜 𝓡 code.env #labels·use-number num-def.routine code.calls-labels·use-number
+      cited 𝓤 H (Numb 𝓤 H (𝓖 .A) (𝓜 .mem) (𝓡 .run)) 𝓜 𝓡 code.env #label-uses·use-number num-def.routine code.calls-label-uses·use-number
           (num-thm.met 𝓤 H 𝓜 𝓖 𝓡),
     ))

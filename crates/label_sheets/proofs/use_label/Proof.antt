@@ -73,10 +73,10 @@ use Rattle.label_sheets.proofs.named as scan
 use Rattle.label_sheets.proofs.named.Symbol as scan-def
 use Rattle.label_sheets.proofs.named.Symbol.{name as #label-sheets·named}
 use Rattle.label_sheets.proofs.named.Met as scan-thm
-use Rattle.labels.proofs.may_use as may
-use Rattle.labels.proofs.may_use.Symbol as may-def
-use Rattle.labels.proofs.may_use.Symbol.{name as #labels·may-use}
-use Rattle.labels.proofs.may_use.Met as may-thm
+use Rattle.label_uses.proofs.may_use as may
+use Rattle.label_uses.proofs.may_use.Symbol as may-def
+use Rattle.label_uses.proofs.may_use.Symbol.{name as #label-uses·may-use}
+use Rattle.label_uses.proofs.may_use.Met as may-thm
 use Rattle.label_sheets.proofs.added as add
 use Rattle.label_sheets.proofs.added.Symbol as add-def
 use Rattle.label_sheets.proofs.added.Symbol.{name as #label-sheets·added}
@@ -132,7 +132,7 @@ module _ {M : Type 1} (𝓤 : URA M) (H : Heap 𝓤) (A : Atoms 𝓤) (mem : Mem
   -- the callees meet them
   abbrev Known : Calls 𝓤 H → Type 1
   Known C = Triple 𝓤 (C #label-sheets·use-at) MakeC × (Triple 𝓤 (C #words·least) LeastC ×
-      (Triple 𝓤 (C #label-sheets·named) NamedC × (Triple 𝓤 (C #labels·may-use) MayC × Triple 𝓤 (C #label-sheets·added) AddedC)))
+      (Triple 𝓤 (C #label-sheets·named) NamedC × (Triple 𝓤 (C #label-uses·may-use) MayC × Triple 𝓤 (C #label-sheets·added) AddedC)))
 
 module _ {M : Type 1} (𝓤 : URA M) (H : Heap 𝓤) (A : Atoms 𝓤) (W : Given 𝓤 H A) (mem : Memory → SProp 𝓤) (run : Routine → Fun 𝓤) (κ κ′ κ″ : Lft)
     (q q′ q″ : Share)
@@ -548,8 +548,8 @@ use-label-spec 𝓤 H 𝓜 𝓖 𝓡 =
           cited 𝓤 H (NamedC 𝓤 H (𝓖 .A) (𝓜 .mem) (𝓡 .run)) 𝓜 𝓡 code.env #label-sheets·named scan-def.routine
               code.calls-label-sheets·named (scan-thm.met 𝓤 H 𝓜 𝓖 𝓡),
           (
-            cited 𝓤 H (MayC 𝓤 H (𝓖 .A) (𝓜 .mem) (𝓡 .run)) 𝓜 𝓡 code.env #labels·may-use
-                may-def.routine code.calls-labels·may-use (may-thm.met 𝓤 H 𝓜 𝓖 𝓡),
+            cited 𝓤 H (MayC 𝓤 H (𝓖 .A) (𝓜 .mem) (𝓡 .run)) 𝓜 𝓡 code.env #label-uses·may-use
+                may-def.routine code.calls-label-uses·may-use (may-thm.met 𝓤 H 𝓜 𝓖 𝓡),
             cited 𝓤 H (AddedC 𝓤 H (𝓖 .A) (𝓜 .mem) (𝓡 .run)) 𝓜 𝓡 code.env
                 #label-sheets·added add-def.routine code.calls-label-sheets·added (add-thm.met 𝓤 H 𝓜 𝓖 𝓡),
           ),

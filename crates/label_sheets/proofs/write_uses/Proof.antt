@@ -63,10 +63,10 @@ use Rattle.labels.proofs.Finishing.{none}
 use Rattle.labels.proofs.Turns.{uses-inside, uses-write, uses-over}
 use Rattle.labels.proofs.Use as T
 use Rattle.labels.proofs.Use.Laws as T′
-use Rattle.labels.proofs.fixed_word as fixed
-use Rattle.labels.proofs.fixed_word.Symbol as fixed-def
-use Rattle.labels.proofs.fixed_word.Symbol.{name as #labels·fixed-word}
-use Rattle.labels.proofs.fixed_word.Met as fixed-thm
+use Rattle.label_uses.proofs.fixed_word as fixed
+use Rattle.label_uses.proofs.fixed_word.Symbol as fixed-def
+use Rattle.label_uses.proofs.fixed_word.Symbol.{name as #label-uses·fixed-word}
+use Rattle.label_uses.proofs.fixed_word.Met as fixed-thm
 use Rattle.label_sheets.proofs.Steps.{rest, place-typed}
 use Rattle.label_sheets.proofs.write_uses.Key.{name as #label-sheets·write-uses}
 use Rattle.label_sheets.proofs.write_uses as wu
@@ -105,7 +105,7 @@ module _ {M : Type 1} (𝓤 : URA M) (H : Heap 𝓤) (A : Atoms 𝓤) (mem : Mem
 
   -- the callee meets it
   abbrev Known : Calls 𝓤 H → Type 1
-  Known C = Triple 𝓤 (C #labels·fixed-word) Fixed
+  Known C = Triple 𝓤 (C #label-uses·fixed-word) Fixed
 
 module _ {M : Type 1} (𝓤 : URA M) (H : Heap 𝓤) (A : Atoms 𝓤) (W : Given 𝓤 H A) (mem : Memory → SProp 𝓤) (run : Routine → Fun 𝓤)
     (κ κ′ κ″ : Lft) (q q′ q″ : Share) (b o : ℕ) (γ : GName) (us : List Use) (m : ℕ) (b′ o′ : ℕ) (γ′ : GName) (ls : List ℕ)
@@ -387,5 +387,5 @@ write-uses-spec 𝓤 H 𝓜 𝓖 𝓡 =
     entered 𝓤 H (tripleOf 𝓤 H (𝓖 .A) wu.signature (wu.spec 𝓤 H (𝓖 .A) (𝓜 .mem) (𝓡 .run)))
     (tables 𝓤 H 𝓜 𝓡 code.env .C) (tables 𝓤 H 𝓜 𝓡 code.env .Λ) #label-sheets·write-uses code.function (code.unfolded 𝓤 H 𝓜 𝓡)
     (wu-meets 𝓤 H (𝓖 .A) (givenOf 𝓤 H 𝓜 𝓖) (𝓜 .mem) (𝓡 .run) (tablesOf 𝓤 H 𝓜 (tables 𝓤 H 𝓜 𝓡 code.env))
-    (cited 𝓤 H (Fixed 𝓤 H (𝓖 .A) (𝓜 .mem) (𝓡 .run)) 𝓜 𝓡 code.env #labels·fixed-word fixed-def.routine code.calls-labels·fixed-word
+    (cited 𝓤 H (Fixed 𝓤 H (𝓖 .A) (𝓜 .mem) (𝓡 .run)) 𝓜 𝓡 code.env #label-uses·fixed-word fixed-def.routine code.calls-label-uses·fixed-word
     (fixed-thm.met 𝓤 H 𝓜 𝓖 𝓡)))

@@ -1,10 +1,10 @@
--- `labels::may_use` meets its contract. Assumes nothing.
+-- `label_uses::may_use` meets its contract. Assumes nothing.
 use borrow.Author.Needs.{needs}
 use borrow.Author.Tests.{lt-ltb, le-ltb, not-true, not-false}
 use Rattle.labels.specs.Sheet.{mayUse}
 use Rattle.labels.proofs.Decides.{base-fails, base-passes}
-use Rattle.labels.proofs.may_use.Statement.{statement}
-use Rattle.labels.proofs.may_use.Tie as tie
+use Rattle.label_uses.proofs.may_use.Statement.{statement}
+use Rattle.label_uses.proofs.may_use.Tie as tie
 
 is-aligned-requires : tie.Need-is-aligned-requires
 is-aligned-requires c κs = search needs

@@ -1,10 +1,10 @@
--- `labels::fixed_word` meets its contract. Assumes nothing.
+-- `label_uses::fixed_word` meets its contract. Assumes nothing.
 use mathlib.Core.Path.{sym, ap, _∙_}
 use borrow.Author.Needs.{needs}
 use Rattle.displacements.specs.Answer.{wordSaid}
 use Rattle.labels.proofs.Decides.{made-fixed, not-fixed}
-use Rattle.labels.proofs.fixed_word.Statement.{statement}
-use Rattle.labels.proofs.fixed_word.Tie as tie
+use Rattle.label_uses.proofs.fixed_word.Statement.{statement}
+use Rattle.label_uses.proofs.fixed_word.Tie as tie
 
 made-word-requires : tie.Need-made-word-requires
 made-word-requires c κs = search needs

@@ -1,11 +1,11 @@
--- `labels::made_word` meets its contract. Assumes nothing.
+-- `label_uses::made_word` meets its contract. Assumes nothing.
 use mathlib.Core.Path.{ap, _∙_}
 use borrow.Author.Needs.{needs}
 use Rattle.words.specs.Place.{placeAt, baseOf, addressOf}
 use Rattle.words.specs.declared.Address.{Address}
 use Rattle.labels.specs.Sheet.{madeFrom}
-use Rattle.labels.proofs.made_word.Statement.{statement}
-use Rattle.labels.proofs.made_word.Tie as tie
+use Rattle.label_uses.proofs.made_word.Statement.{statement}
+use Rattle.label_uses.proofs.made_word.Tie as tie
 
 target-of-requires : tie.Need-target-of-requires
 target-of-requires c κs = search needs

@@ -1,12 +1,12 @@
--- `labels::use_number` meets its contract. Assumes nothing.
+-- `label_uses::use_number` meets its contract. Assumes nothing.
 use native.Mathlib.Omega.{arith}
 use mathlib.Core.Path.{ap, _∙_}
 use borrow.Author.Needs.{needs}
 use borrow.Author.Tests.{lt-ltb, le-ltb, le-leb, lt-leb, not-true, not-false}
 use Rattle.labels.specs.Sheet.{numberIn, wordNumber}
 use Rattle.labels.proofs.Decides.{base-fails, base-passes, made-number}
-use Rattle.labels.proofs.use_number.Statement.{statement}
-use Rattle.labels.proofs.use_number.Tie as tie
+use Rattle.label_uses.proofs.use_number.Statement.{statement}
+use Rattle.label_uses.proofs.use_number.Tie as tie
 
 number-requires : tie.Need-number-requires
 number-requires c κs = search needs

@@ -1,9 +1,9 @@
--- `labels::entry_of` meets its contract. Assumes nothing.
+-- `label_uses::entry_of` meets its contract. Assumes nothing.
 use mathlib.Core.Path.{sym}
 use borrow.Author.Needs.{needs}
 use lib.ListN.{List·getD-eq-default}
-use Rattle.labels.proofs.entry_of.Statement.{statement}
-use Rattle.labels.proofs.entry_of.Tie as tie
+use Rattle.label_uses.proofs.entry_of.Statement.{statement}
+use Rattle.label_uses.proofs.entry_of.Tie as tie
 
 mul-result : tie.Need-mul-result
 mul-result c = search needs

@@ -1,12 +1,12 @@
--- `labels::base_number` meets its contract. Assumes nothing.
+-- `label_uses::base_number` meets its contract. Assumes nothing.
 use mathlib.Core.Path.{sym, ap, _∙_}
 use borrow.Author.Needs.{needs}
 use Rattle.words.specs.Answer.{made}
 use Rattle.words.specs.declared.Worded.{Worded}
 use Rattle.labels.specs.Sheet.{numberIn}
 use Rattle.labels.proofs.Decides.{base-said}
-use Rattle.labels.proofs.base_number.Statement.{statement}
-use Rattle.labels.proofs.base_number.Tie as tie
+use Rattle.label_uses.proofs.base_number.Statement.{statement}
+use Rattle.label_uses.proofs.base_number.Tie as tie
 
 disp-word-requires : tie.Need-disp-word-requires
 disp-word-requires c κs = search needs

@@ -1,0 +1,2 @@
+-- That each contract has one answer.
+pub mod Determined
