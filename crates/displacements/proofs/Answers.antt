@@ -17,7 +17,7 @@ use Rattle.arm.proofs.Tests.{never}
 use Rattle.words.proofs.Answers.{Short, Alone, Numbered, alone-short}
 use Rattle.displacements.specs.declared.Form.{Form}
 use Rattle.displacements.specs.Forms.{formOf, fieldIn, putIn, step, reach, least, greatest}
-use Rattle.displacements.specs.Answer.{placeSaid, stepsOf, dispSaid, pageOf, between, targetSaid}
+use Rattle.displacements.specs.Answer.{placeSaid, stepsOf, dispSaid}
 use Rattle.displacements.specs.Private.{Sound}
 use Rattle.displacements.specs.Says.{Says, unknown, alien, taken, off, far, word, Based, Free, OnStep, InRange}
 
@@ -165,6 +165,3 @@ numbered n b d = go (says n b d)
 
 pub short : (n b : ℕ) (d : ℤ) → Short (dispSaid n b d)
 short n b d = alone-short (dispSaid n b d) (alone n b d)
-
-pub target-short : (n b t a : ℕ) → Short (targetSaid n b t a)
-target-short n b t a = short n b (between (pageOf n t) (pageOf n a))

@@ -3,11 +3,11 @@ use mathlib.Core.Path.{_≡_, refl, sym, ap, subst, _∙_}
 use mathlib.Core.Logic.{_⊎_, inl, inr, ⊎-elim, _↔_}
 use mathlib.Core.Bool.{Bool, true, false, cond, not}
 use mathlib.Core.List.{List, [], _∷_}
-use Prim.Native.Nat.{ℕ, _+_, _-_, _*_, _/_, _%_, _^_, _<_, _≤_}
+use Prim.Native.Nat.{ℕ, _+_, _-_, _*_, _/_, _^_, _<_, _≤_}
 use native.Mathlib.Nat.{mod-lt, mul-pos, eq-zero-or-pos, zero-mod, zero-div, zero-mul, add-zero, lt-of-lt-of-le}
 use native.Mathlib.Omega.{arith}
-use borrow.Author.Tests.{lt-ltb, le-ltb, ltb-true, ltb-false, ne-eqb}
-use lib.Dec.{eqb, ltb, leb→le}
+use borrow.Author.Tests.{lt-ltb, le-ltb, ltb-true, ltb-false}
+use lib.Dec.{ltb, leb→le}
 use lib.IntN.{ℤ, pos, negsuc, negℤ}
 use lib.ListN.{length, getD}
 use lib.Pow.{pow-pos, pow-mono}
@@ -15,22 +15,22 @@ use lib.Seq.{sets, getD-set-same, getD-set-other}
 use lib.Signed.{mag}
 use mir.Syntax.{w64}
 use mir.Val.{SFits, ofZ}
-use mir.Facts.{toZ-ofZ, ofZ-toZ}
+use mir.Facts.{toZ-ofZ}
 use Rattle.arm.specs.FixedBits.{isBcond, isCBZ}
 use Rattle.arm.proofs.SignExtends.{extend, extended}
 use Rattle.words.specs.Said.{Said, ok, no}
 use Rattle.forms.specs.Form.{hasForm, Formed, formSaid}
-use Rattle.words.specs.Place.{placeAt, baseOf, posOf, on, addressOf, Aligned}
+use Rattle.words.specs.Place.{posOf, on, Aligned}
 use Rattle.words.specs.declared.Place.{Place}
-use Rattle.writers.specs.Put.{putAt, atBase, putOf}
+use Rattle.writers.specs.Put.{putOf}
 use Rattle.writers.specs.Says.{refused, full, Puts}
 use Rattle.words.proofs.Answers.{Alone, not-both}
 use Rattle.words.proofs.Fields.{part, bit, bit-of-clear, clear-of-bits}
 use Rattle.forms.proofs.Instructions.{one-form}
-use Rattle.writers.proofs.Writes.{put-exactly, put-answers, put-15, put-before, put-done}
+use Rattle.writers.proofs.Writes.{put-exactly, put-answers, put-15, put-done}
 use Rattle.displacements.specs.declared.Form.{Form}
 use Rattle.displacements.specs.Forms.{forms, formOf, fieldIn, putIn, step, reach, least, greatest}
-use Rattle.displacements.specs.Answer.{stepsOf, placeSaid, dispSaid, pageOf, between, targetSaid, offset, readSaid}
+use Rattle.displacements.specs.Answer.{stepsOf, placeSaid, dispSaid, offset, readSaid}
 use Rattle.displacements.specs.Private.{Sound, offsetIn}
 use Rattle.displacements.specs.Says.{Says, unknown, alien, taken, off, far, word, Based, Free, OnStep, InRange}
 use Rattle.displacements.proofs.Laws.{sound, arm-reads, Outside, put-there, put-kept, rest-free, lows-free}
@@ -221,43 +221,6 @@ module _ (n b : ℕ) (d : ℤ) (w : ℕ) (e : dispSaid n b d ≡ ok (w ∷ [])) 
   pub cond-kept : n ≡ 1 → (isBcond w ≡ isBcond b) × (isCBZ w ≡ isCBZ b)
   cond-kept e = conds-kept w b (λ q l o. kept q l (subst (λ (m : ℕ). Outside (formOf m) q l) (sym e) o))
 
--- ---- the target entry
-
--- it is the distance entry at the distance of the two, for ADRP of their pages
-pub target-is-distance : (n b t a : ℕ) → targetSaid n b t a ≡ dispSaid n b (between (pageOf n t) (pageOf n a))
-target-is-distance n b t a = refl
-
--- at format 4 the page, the address less its low 12 bits
-pub page-is : (a : ℕ) → pageOf 4 a ≡ a / 4096 * 4096
-page-is a = omega arith
-
--- elsewhere the address
-pub page-other : (n a : ℕ) → (n ≡ 4 → ⊥) → pageOf n a ≡ a
-page-other n a h = simp (ne-eqb n 4 h)
-
-pub elsewhere : (n b t a : ℕ) → (n ≡ 4 → ⊥) → targetSaid n b t a ≡ dispSaid n b (between t a)
-elsewhere n b t a h = rw (page-other n t h, page-other n a h)
-
--- as 64 bits
-pub bits-between : (t o : ℕ) → ofZ w64 (between t o) ≡ (t + (2 ^ 64 - o)) % 2 ^ 64
-bits-between t o = ofZ-toZ {w = w64} (record { fits = mod-lt (t + (2 ^ 64 - o)) (pow-pos 64) })
-
-page-le : (n a : ℕ) → pageOf n a ≤ a
-page-le n a = go (eqb n 4)
-  where
-    go : (x : Bool) → cond x (a - a % 4096) a ≤ a
-    go true = omega arith
-    go false = omega arith
-
--- by Arm's reading the instruction arrives at the target, an ADRP at its page
-pub arrives : (n b t a w : ℕ) → t < 2 ^ 64 → a < 2 ^ 64 → targetSaid n b t a ≡ ok (w ∷ []) → (pageOf n a + offset n w) % 2 ^ 64 ≡ pageOf n t
-arrives n b t a w ht ha e =
-    rw (arm-reads-back n b (between (pageOf n t) (pageOf n a)) w e, bits-between (pageOf n t) (pageOf n a))
-    (back (pageOf n t) (pageOf n a) (omega (arith, page-le n t)) (omega (arith, page-le n a)))
-  where
-    back : (t o : ℕ) → t < 2 ^ 64 → o < 2 ^ 64 → (o + (t + (2 ^ 64 - o)) % 2 ^ 64) % 2 ^ 64 ≡ t
-    back t o h k = omega arith
-
 -- ---- the entries that write: 15 first and 8 last, and what stands at the position reads back
 
 module _ (ws : List ℕ) (at : Place) (n b : ℕ) (d : ℤ) where
@@ -305,25 +268,3 @@ module _ (ws : List ℕ) (at : Place) (n b : ℕ) (d : ℤ) (p : Place) (ws′ :
   -- by Arm's reading and by the reader
   pub emit-reads-back : (offset n (getD ws′ (posOf at) 0) ≡ ofZ w64 d) × (readSaid (getD ws′ (posOf at) 0) n ≡ ok d)
   emit-reads-back = let w = getD ws′ (posOf at) 0 in (arm-reads-back n b d w (emitted .there), read-back n b d w (emitted .there))
-
--- ---- the target entry, written: the address is the place's
-
-pub address-fits : (at : Place) → addressOf at < 2 ^ 64
-address-fits at = mod-lt (baseOf at + 4 * posOf at) (pow-pos 64)
-
-module _ (ws : List ℕ) (at : Place) (n b t : ℕ) where
-  pub emit-arrives : (p : Place) (ws′ : List ℕ) → t < 2 ^ 64
-      → (ok p, ws′) ≡ putOf ws at (targetSaid n b t (addressOf at)) → (pageOf n (addressOf at) + offset n (getD ws′ (posOf at) 0)) % 2 ^ 64 ≡ pageOf n t
-  emit-arrives p ws′ ht e =
-      arrives n b t (addressOf at) (getD ws′ (posOf at) 0) ht (address-fits at)
-      (emitted ws at n b (between (pageOf n t) (pageOf n (addressOf at))) p ws′ e .there)
-
-pub zero-address : (p : ℕ) → 4 * p < 2 ^ 64 → addressOf (placeAt 0 p) ≡ 4 * p
-zero-address p h = omega arith
-
--- "At base 0 no word changes, where the address given to the target entry was four times the position": what document 01's writer says of that address
-pub zero-base : (ws : List ℕ) (p n b t : ℕ) → 4 * p < 2 ^ 64
-    → putOf ws (placeAt 0 p) (targetSaid n b t (addressOf (placeAt 0 p))) ≡ atBase (record { 0 = 0 }) (putAt ws p (targetSaid n b t (4 * p)))
-zero-base ws p n b t h =
-    put-before ws (placeAt 0 p) (targetSaid n b t (addressOf (placeAt 0 p))) refl
-    ∙ ap (λ (a : ℕ). atBase (record { 0 = 0 }) (putAt ws p (targetSaid n b t a))) (zero-address p h)

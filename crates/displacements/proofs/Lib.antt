@@ -3,9 +3,7 @@ pub mod Laws
 pub mod Cleared
 pub mod Distances
 pub mod Answers
-pub mod Targets
 pub mod Kept
 pub mod Demands
-pub mod Pages
 pub mod Determined
 pub mod Examples

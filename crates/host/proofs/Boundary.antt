@@ -31,11 +31,13 @@ use Rattle.moves.proofs.Demands.{mov-said}
 use Rattle.patchable_moves.specs.Patchable.{patchSaid}
 use Rattle.patchable_moves.proofs.Demands.{patch-said}
 use Rattle.forms.specs.Form.{formSaid}
-use Rattle.displacements.specs.Answer.{dispSaid, pageOf, between, targetSaid, lowOf, carrying, carried, readSaid, offset}
-use Rattle.displacements.proofs.Demands.{form-yes, read-back, arrives, address-fits, zero-address}
+use Rattle.displacements.specs.Answer.{dispSaid, readSaid, offset}
+use Rattle.displacements.proofs.Demands.{form-yes, read-back}
 use Rattle.displacements.proofs.Answers.{alone}
-use Rattle.displacements.proofs.Targets.{low-page}
-use Rattle.displacements.proofs.Pages.{Paged, paged-at}
+use Rattle.disp_targets.specs.Target.{pageOf, between, targetSaid, lowOf, carrying, carried}
+use Rattle.disp_targets.proofs.Demands.{arrives, address-fits, zero-address}
+use Rattle.disp_targets.proofs.Targets.{low-page}
+use Rattle.disp_targets.proofs.Pages.{Paged, paged-at}
 use Rattle.host.specs.Number.{told, refusalIn, valueIn, Reads, lowBits, countedTo, hostToOf, hostPutTo, lowIn, wordsFrom, wordAt, spelled, byteIn, fieldsIn, yesNo}
 use Rattle.host.proofs.Reading.{Bytes}
 use Rattle.host.proofs.Demands.{Sane, Low, low-none, target-low, Called, CalledTo, plainly, fifteen, fifteen-to, reads-to, stands-to, move-sane, patchable-sane, displacement-sane, word-sane, fields-read, fields-apart, form-read, distance-read}

@@ -35,10 +35,11 @@ use Rattle.logical.proofs.Laws.{length-low}
 use Rattle.logical_words.specs.Word.{baseOf, filled, wordOf}
 use Rattle.forms.specs.Form.{hasForm, formSaid}
 use Rattle.forms.proofs.Formats.{each}
-use Rattle.displacements.specs.Answer.{dispSaid, lowOf, carrying, carried, readSaid, offset}
+use Rattle.displacements.specs.Answer.{dispSaid, readSaid, offset}
 use Rattle.displacements.specs.Forms.{formOf, fieldIn, step}
 use Rattle.displacements.proofs.Answers.{alone, numbered}
 use Rattle.displacements.proofs.Laws.{sound, arm-reads, offset-lt}
+use Rattle.disp_targets.specs.Target.{lowOf, carrying, carried}
 use Rattle.host.specs.Number.{told, refusalIn, Reads, counted, hostPut, lowBits, countedTo, hostToOf, hostPutTo, countIn, lowIn, spelled, yesNo}
 use Rattle.host.proofs.Laws.{counted-none, hosted-none}
 use Rattle.host.proofs.Reading.{Small, told-reads, told-parts, Bytes, told-bytes, extended-mag}

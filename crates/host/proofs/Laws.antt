@@ -18,8 +18,8 @@ use Rattle.words.specs.declared.Worded.{Worded}
 use Rattle.words.specs.declared.Written.{Written}
 use Rattle.words.proofs.Answers.{Short}
 use Rattle.writers.proofs.Writes.{Answer, bytes-says, bytes-no}
-use Rattle.displacements.specs.Answer.{targetSaid, lowOf, carrying, carried}
-use Rattle.displacements.proofs.Targets.{put-target}
+use Rattle.disp_targets.specs.Target.{targetSaid, lowOf, carrying, carried}
+use Rattle.disp_targets.proofs.Targets.{put-target}
 use Rattle.host.specs.Number.{told, counted, hostOf, hostPut, countedTo, hostToOf, hostPutTo, hostTarget}
 use Rattle.host.specs.Private.{Near}
 

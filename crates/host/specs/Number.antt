@@ -19,7 +19,7 @@ use Rattle.writers.specs.Put.{wordsIn, putBytesOf}
 use Rattle.logical.specs.Answer.{Encoded}
 use Rattle.logical.specs.declared.LogicalImm.{LogicalImm}
 use Rattle.logical_decoder.specs.Answer.{Decoded, Normal}
-use Rattle.displacements.specs.Answer.{carried, putTo}
+use Rattle.disp_targets.specs.Target.{carried, putTo}
 
 -- the value above the low byte, modulo 2 ^ 64; or a refusal's number, which is all of it
 abbrev pub told : Said ℤ → ℕ

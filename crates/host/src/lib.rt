@@ -1,9 +1,9 @@
 // The entries for the tool's host: numbers and runs of bytes only. Each answers one number: a refusal's number in its low byte (0: nothing was
 // refused), and in the bits above it, read as signed, the value (0 with a refusal). A base address is that of the run's first word, a multiple of 4; a
 // position counts words; a word is four bytes, low byte first; a tail under four bytes is no room.
+use disp_targets::Low12;
+use disp_targets::TargetWord;
 use displacements::DistanceAnswer;
-use displacements::Low12;
-use displacements::TargetWord;
 use forms::FormAnswer;
 use logical::LogicalAnswer;
 use logical::LogicalImm;
@@ -27,7 +27,8 @@ ghost use Rattle.words.specs.Place.{placeAt, addressOf};
 ghost use Rattle.logical_words.specs.Word.{ForWord};
 ghost use Rattle.moves.specs.Moves.{movSaid};
 ghost use Rattle.patchable_moves.specs.Patchable.{patchSaid};
-ghost use Rattle.displacements.specs.Answer.{dispSaid, targetSaid, lowOf, carrying, wordSaid, readSaid};
+ghost use Rattle.displacements.specs.Answer.{dispSaid, readSaid};
+ghost use Rattle.disp_targets.specs.Target.{targetSaid, lowOf, carrying, wordSaid};
 ghost use Rattle.forms.specs.Form.{formSaid};
 ghost use Rattle.host.specs.Number.{told, counted, hostPut, countedTo, hostPutTo, hostTarget, spelled, ForFields, ForNormal, maskWords, ForMask, yesNo};
 ghost use Rattle.host.specs.Private.{Near};
@@ -246,7 +247,7 @@ pub extern "C" fn vaimalofo_displacement_to(
     ensures { λ r. ⌜ (r, now (bytes .exit)) ≡ hostPutTo (now (bytes .entry)) (placeAt «base_address» position) (lowOf format target) (targetSaid format base target (addressOf (placeAt «base_address» position))) ⌝ }
 {
     let address = words::address_of(place(base_address, position));
-    let word = displacements::disp_target_word(format, Opc(base), Address(target), address);
+    let word = disp_targets::disp_target_word(format, Opc(base), Address(target), address);
     put_target(bytes, base_address, position, word)
 }
 

@@ -9,7 +9,8 @@ use lib.ListN.{length, getD, set, take}
 use Rattle.words.specs.Said.{Said, ok, no}
 use Rattle.words.specs.Place.{placeAt, baseOf, posOf, addressOf, Aligned}
 use Rattle.words.specs.declared.Place.{Place}
-use Rattle.displacements.specs.Answer.{pageOf, offset}
+use Rattle.displacements.specs.Answer.{offset}
+use Rattle.disp_targets.specs.Target.{pageOf}
 use Rattle.labels.specs.declared.Use.{Use}
 use Rattle.labels.specs.Order.{first, answer}
 use Rattle.labels.specs.Sheet.{roomIn, names, bindTests, bindOf, useAt, useOf, target, finishOf, filled}

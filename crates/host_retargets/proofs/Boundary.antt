@@ -20,11 +20,12 @@ use Rattle.words.proofs.Answers.{alone-word}
 use Rattle.words.proofs.Fields.{part}
 use Rattle.writers.specs.Put.{wordsIn}
 use Rattle.displacements.specs.Forms.{formOf, clearIn}
-use Rattle.displacements.specs.Answer.{pageOf, between, offset, lowOf}
+use Rattle.displacements.specs.Answer.{offset}
 use Rattle.displacements.proofs.Laws.{Outside}
-use Rattle.displacements.proofs.Demands.{arrives, address-fits}
-use Rattle.displacements.proofs.Targets.{low-page}
-use Rattle.displacements.proofs.Pages.{Paged, paged-at}
+use Rattle.disp_targets.specs.Target.{pageOf, between, lowOf}
+use Rattle.disp_targets.proofs.Demands.{arrives, address-fits}
+use Rattle.disp_targets.proofs.Targets.{low-page}
+use Rattle.disp_targets.proofs.Pages.{Paged, paged-at}
 use Rattle.retargets.specs.Retarget.{wordAt, againSaid}
 use Rattle.retargets.proofs.Answers.{word-there, word-missing, again-7, again-missing, again-alone}
 use Rattle.retargets.proofs.Demands.{the-same, again-kept, sent}

@@ -9,7 +9,7 @@ ghost use Prim.Native.Nat.{_+_, _*_, _<_};
 ghost use lib.ListN.{length};
 ghost use Rattle.words.specs.Place.{placeAt, addressOf};
 ghost use Rattle.writers.specs.Put.{wordsIn};
-ghost use Rattle.displacements.specs.Answer.{lowOf};
+ghost use Rattle.disp_targets.specs.Target.{lowOf};
 ghost use Rattle.retargets.specs.Retarget.{wordAt, standingSaid, againSaid, againTo};
 ghost use Rattle.host.specs.Number.{hostPut, hostPutTo};
 ghost use Rattle.host_retargets.specs.Private.{fourFrom};

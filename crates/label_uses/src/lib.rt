@@ -1,5 +1,5 @@
 // Request b of document 02: what is decided of one use of a label, by value: whether it is taken, whether it has a word, and the word.
-use displacements::TargetWord;
+use disp_targets::TargetWord;
 use labels::Use;
 use words::Address;
 use words::ByteDistance;
@@ -13,7 +13,7 @@ ghost use Prim.Native.Nat.{_+_, _<_};
 ghost use lib.ListN.{getD};
 ghost use Rattle.words.specs.Place.{addressOf, baseOf, placeAt};
 ghost use Rattle.words.specs.Listed.{packed};
-ghost use Rattle.displacements.specs.Answer.{lowOf, carrying, wordSaid};
+ghost use Rattle.disp_targets.specs.Target.{lowOf, carrying, wordSaid};
 ghost use Rattle.labels.specs.Order.{first};
 ghost use Rattle.labels.specs.Sheet.{roomIn, baseTests, mayUse, target, madeFrom, numberIn, wordNumber, fixedOf};
 
@@ -98,7 +98,7 @@ fn made_word(labels: &[usize], at: Place, u: Use, base: u32) -> TargetWord
     ensures { λ r. ⌜ wordSaid r ≡ carrying (lowOf (u .format) (addressOf (placeAt (baseOf at) (target (now (labels .entry)) u)))) (packed (madeFrom at (now (labels .entry)) u base)) ⌝ }
 {
     let target = words::address_of(moved(at, target_of(labels, u)));
-    displacements::disp_target_word(
+    disp_targets::disp_target_word(
         u.format,
         Opc(base),
         target,

@@ -20,8 +20,9 @@ use Rattle.words.specs.declared.Words.{Words}
 use Rattle.words.proofs.Answers.{not-both}
 use Rattle.forms.specs.Form.{hasForm}
 use Rattle.displacements.specs.Forms.{formOf, fieldIn}
-use Rattle.displacements.specs.Answer.{dispSaid, lowOf, carrying}
+use Rattle.displacements.specs.Answer.{dispSaid}
 use Rattle.displacements.proofs.Demands.{asks-base}
+use Rattle.disp_targets.specs.Target.{lowOf, carrying}
 use Rattle.labels.specs.declared.Use.{Use}
 use Rattle.labels.specs.Limits.{labelLimit}
 use Rattle.labels.specs.Order.{first, orThen}

@@ -10,7 +10,7 @@ use Rattle.words.specs.declared.Place.{Place}
 use Rattle.writers.specs.Put.{putOf}
 use Rattle.writers.specs.Says.{done}
 use Rattle.writers.proofs.Writes.{put-answers}
-use Rattle.displacements.specs.Answer.{targetSaid}
+use Rattle.disp_targets.specs.Target.{targetSaid}
 use Rattle.labels.specs.declared.Use.{Use}
 use Rattle.labels.specs.Sheet.{target, madeFrom, finishOf}
 use Rattle.labels.proofs.Finishing.{none, finish-aligned, finished-inside, finished-at}

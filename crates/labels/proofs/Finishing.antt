@@ -15,9 +15,10 @@ use Rattle.words.specs.Said.{Said, ok, no}
 use Rattle.words.specs.Place.{baseOf, posOf, placeAt, addressOf, Aligned}
 use Rattle.words.specs.declared.Place.{Place}
 use Rattle.words.proofs.Answers.{Alone, Numbered, number-fits}
-use Rattle.displacements.specs.Answer.{pageOf, between, targetSaid, offset}
+use Rattle.displacements.specs.Answer.{offset}
 use Rattle.displacements.proofs.Answers.{alone, numbered}
-use Rattle.displacements.proofs.Demands.{arrives, address-fits, zero-address}
+use Rattle.disp_targets.specs.Target.{pageOf, between, targetSaid}
+use Rattle.disp_targets.proofs.Demands.{arrives, address-fits, zero-address}
 use Rattle.labels.specs.declared.Use.{Use}
 use Rattle.labels.specs.Limits.{useLimit}
 use Rattle.labels.specs.Order.{first, orThen}

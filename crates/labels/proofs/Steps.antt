@@ -15,11 +15,11 @@ use Rattle.words.specs.Said.{no}
 use Rattle.words.specs.Place.{placeAt, baseOf, addressOf, Aligned}
 use Rattle.words.specs.declared.Place.{Place}
 use Rattle.displacements.specs.Forms.{formOf}
-use Rattle.displacements.specs.Answer.{between, targetSaid}
 use Rattle.displacements.specs.Says.{OnStep}
 use Rattle.displacements.proofs.Distances.{bits-steps}
-use Rattle.displacements.proofs.Demands.{bits-between}
-use Rattle.displacements.proofs.Pages.{never-4, other-4}
+use Rattle.disp_targets.specs.Target.{between, targetSaid}
+use Rattle.disp_targets.proofs.Demands.{bits-between}
+use Rattle.disp_targets.proofs.Pages.{never-4, other-4}
 use Rattle.labels.specs.declared.Use.{Use}
 use Rattle.labels.specs.Sheet.{target, madeFrom}
 

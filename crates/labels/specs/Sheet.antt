@@ -11,7 +11,7 @@ use Rattle.words.specs.Place.{placeAt, baseOf, posOf, addressOf}
 use Rattle.words.specs.declared.Place.{Place}
 use Rattle.forms.specs.Form.{hasForm}
 use Rattle.displacements.specs.Forms.{formOf, fieldIn}
-use Rattle.displacements.specs.Answer.{targetSaid}
+use Rattle.disp_targets.specs.Target.{targetSaid}
 use Rattle.labels.specs.declared.Use.{Use}
 use Rattle.labels.specs.declared.Binding.{Binding}
 use Rattle.labels.specs.declared.Binding.the-variants.{Bound, NotBound}

@@ -4,7 +4,7 @@ use crate::answers::answer;
 use crate::answers::one;
 use crate::low;
 use crate::wide;
-use displacements::TargetWritten;
+use disp_targets::TargetWritten;
 use lines::Answer;
 use words::Address;
 use words::ByteDistance;
@@ -174,7 +174,7 @@ fn by_distance(r: Request, run: &mut [u32]) -> Written {
 
 fn by_target(r: Request, run: &mut [u32]) -> TargetWritten {
     let at = place(r.f, r.e);
-    displacements::emit_disp_target(run, at, low(r.a), Opc(low(r.b)), Address(r.c))
+    disp_targets::emit_disp_target(run, at, low(r.a), Opc(low(r.b)), Address(r.c))
 }
 
 fn write(r: Request, run: &mut [u32]) -> Answer {

@@ -23,13 +23,15 @@ use Rattle.words.proofs.Answers.{not-both}
 use Rattle.writers.specs.Put.{putOf}
 use Rattle.forms.specs.Form.{Formed}
 use Rattle.displacements.specs.Forms.{formOf, fieldIn, clearIn, step}
-use Rattle.displacements.specs.Answer.{stepsOf, dispSaid, pageOf, between, offset, readSaid, lowOf, carried}
+use Rattle.displacements.specs.Answer.{stepsOf, dispSaid, offset, readSaid}
 use Rattle.displacements.specs.Says.{Says, word}
 use Rattle.displacements.proofs.Laws.{sound, Outside}
 use Rattle.displacements.proofs.Cleared.{clear-free, clear-kept, clear-same, clear-put, clear-form}
-use Rattle.displacements.proofs.Demands.{exactly, exactly-11, exactly-6, read-back, arm-reads-back, kept, form-kept, arrives, address-fits, Emitted, one-put}
-use Rattle.displacements.proofs.Targets.{carried-parts, low-four}
-use Rattle.displacements.proofs.Pages.{Paged, paged-at}
+use Rattle.displacements.proofs.Demands.{exactly, exactly-11, exactly-6, read-back, arm-reads-back, kept, form-kept, Emitted, one-put}
+use Rattle.disp_targets.specs.Target.{pageOf, between, lowOf, carried}
+use Rattle.disp_targets.proofs.Demands.{arrives, address-fits}
+use Rattle.disp_targets.proofs.Targets.{carried-parts, low-four}
+use Rattle.disp_targets.proofs.Pages.{Paged, paged-at}
 use Rattle.retargets.specs.Retarget.{wordAt, againSaid, againTo}
 use Rattle.retargets.proofs.Answers.{word-there, word-missing, again-7, again-there, again-missing, again-alone}
 

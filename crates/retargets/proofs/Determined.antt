@@ -2,7 +2,7 @@
 use denote.Ref.{now}
 use Rattle.words.proofs.Answers.{made-all}
 use Rattle.words.proofs.Contracts.{OneAnswer, OneWrite, one-answer, one-pair, one-write}
-use Rattle.displacements.proofs.Determined.{word-all, written-all}
+use Rattle.disp_targets.proofs.Determined.{word-all, written-all}
 use Rattle.retargets.proofs.retarget_word.Reads as retarget-word
 use Rattle.retargets.proofs.retarget_target_word.Reads as retarget-target-word
 use Rattle.retargets.proofs.retarget.Reads as retarget

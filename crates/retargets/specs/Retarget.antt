@@ -8,7 +8,8 @@ use lib.ListN.{length, getD}
 use Rattle.words.specs.Said.{Said, ok, no}
 use Rattle.words.specs.Answer.{numberOf}
 use Rattle.displacements.specs.Forms.{formOf, clearIn}
-use Rattle.displacements.specs.Answer.{dispSaid, pageOf, between}
+use Rattle.displacements.specs.Answer.{dispSaid}
+use Rattle.disp_targets.specs.Target.{pageOf, between}
 use Rattle.retargets.specs.declared.Standing.{Standing}
 use Rattle.retargets.specs.declared.Standing.the-variants.{Stands, Missing}
 

@@ -1,6 +1,6 @@
 // A companion of module 7: another distance for a word already written. Its field is cleared, then the tests are the same; 6 is never given.
-use displacements::TargetWord;
-use displacements::TargetWritten;
+use disp_targets::TargetWord;
+use disp_targets::TargetWritten;
 use words::Address;
 use words::ByteDistance;
 use words::Opc;
@@ -13,7 +13,7 @@ ghost use Rattle.words.specs.Answer.{said, made};
 ghost use Rattle.words.specs.Listed.{packed};
 ghost use Rattle.words.specs.Place.{posOf, addressOf};
 ghost use Rattle.writers.specs.Put.{putOf};
-ghost use Rattle.displacements.specs.Answer.{lowOf, carrying, carried, wordSaid, writtenSaid};
+ghost use Rattle.disp_targets.specs.Target.{lowOf, carrying, carried, wordSaid, writtenSaid};
 ghost use Rattle.retargets.specs.Retarget.{wordAt, standingSaid, againSaid, againTo};
 
 // The word that stands at a position of a run, or why there is none.
@@ -50,7 +50,7 @@ pub fn retarget_target_word(
         return TargetWord::NoWord(Refusal::Unknown);
     }
     match there {
-        Standing::Stands(w) => displacements::disp_target_word(
+        Standing::Stands(w) => disp_targets::disp_target_word(
             format,
             displacements::clear_disp(format, w),
             target,
@@ -86,5 +86,5 @@ pub fn retarget_to(words: &mut [u32], at: Place, format: u32, target: Address) -
 {
     let there = found(words, at);
     let word = retarget_target_word(format, there, target, words::address_of(at));
-    displacements::put_target(words, at, word)
+    disp_targets::put_target(words, at, word)
 }

@@ -5,8 +5,8 @@ use Rattle.words.specs.Said.{ok, no}
 use Rattle.words.specs.Answer.{numberOf}
 use Rattle.words.specs.Listed.{listOf}
 use Rattle.words.specs.Place.{placeAt}
-use Rattle.displacements.specs.declared.TargetWord.{TargetWord}
-use Rattle.displacements.specs.Answer.{wordSaid}
+use Rattle.disp_targets.specs.declared.TargetWord.{TargetWord}
+use Rattle.disp_targets.specs.Target.{wordSaid}
 use Rattle.host.specs.Number.{hostTarget}
 use Rattle.host.proofs.Laws.{hosted-none}
 use Rattle.host.proofs.put_target.Statement.{statement}

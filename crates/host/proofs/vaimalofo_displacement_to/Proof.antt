@@ -5,7 +5,7 @@ use Rattle.words.specs.Listed.{packed}
 use Rattle.words.specs.Place.{placeAt, addressOf}
 use Rattle.words.specs.declared.Address.{Address}
 use Rattle.words.specs.declared.Place.{Place}
-use Rattle.displacements.specs.Answer.{targetSaid, lowOf, carrying}
+use Rattle.disp_targets.specs.Target.{targetSaid, lowOf, carrying}
 use Rattle.host.specs.Number.{hostTarget}
 use Rattle.host.proofs.Laws.{landed}
 use Rattle.host.proofs.vaimalofo_displacement_to.Statement.{statement}

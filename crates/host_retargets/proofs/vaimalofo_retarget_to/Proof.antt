@@ -9,8 +9,8 @@ use Rattle.words.specs.declared.Address.{Address}
 use Rattle.words.specs.declared.Place.{Place}
 use Rattle.writers.specs.Put.{wordsIn, putBytesOf}
 use Rattle.writers.proofs.Writes.{bytes-no}
-use Rattle.displacements.specs.Answer.{pageOf, between, lowOf, carrying}
-use Rattle.displacements.proofs.Targets.{put-to}
+use Rattle.disp_targets.specs.Target.{pageOf, between, lowOf, carrying}
+use Rattle.disp_targets.proofs.Targets.{put-to}
 use Rattle.retargets.specs.Retarget.{wordAt, standingSaid, againTo}
 use Rattle.retargets.proofs.Answers.{again-short}
 use Rattle.host.specs.Number.{hostToOf, hostTarget}

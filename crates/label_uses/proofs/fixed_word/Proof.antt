@@ -1,7 +1,7 @@
 -- `label_uses::fixed_word` meets its contract. Assumes nothing.
 use mathlib.Core.Path.{sym, ap, _∙_}
 use borrow.Author.Needs.{needs}
-use Rattle.displacements.specs.Answer.{wordSaid}
+use Rattle.disp_targets.specs.Target.{wordSaid}
 use Rattle.labels.proofs.Decides.{made-fixed, not-fixed}
 use Rattle.label_uses.proofs.fixed_word.Statement.{statement}
 use Rattle.label_uses.proofs.fixed_word.Tie as tie

@@ -7,7 +7,7 @@ use borrow.Author.Needs.{needs}
 use Rattle.words.specs.Said.{Said}
 use Rattle.words.specs.Listed.{packed}
 use Rattle.words.specs.declared.Words.{Words}
-use Rattle.displacements.specs.Answer.{pageOf, between, targetSaid, lowOf, carrying}
+use Rattle.disp_targets.specs.Target.{pageOf, between, targetSaid, lowOf, carrying}
 use Rattle.retargets.specs.declared.Standing.{Standing}
 use Rattle.retargets.specs.Retarget.{standingSaid, againTo}
 use Rattle.retargets.proofs.Answers.{again-7, again-there, again-missing}

@@ -8,8 +8,8 @@ use Rattle.words.specs.Place.{posOf, addressOf}
 use Rattle.words.specs.declared.Address.{Address}
 use Rattle.writers.specs.Put.{putOf}
 use Rattle.writers.proofs.Writes.{put-no}
-use Rattle.displacements.specs.Answer.{pageOf, between, lowOf, carrying, putTo}
-use Rattle.displacements.proofs.Targets.{put-to}
+use Rattle.disp_targets.specs.Target.{pageOf, between, lowOf, carrying, putTo}
+use Rattle.disp_targets.proofs.Targets.{put-to}
 use Rattle.retargets.specs.Retarget.{wordAt, standingSaid, againTo}
 use Rattle.retargets.proofs.Answers.{again-short}
 use Rattle.retargets.proofs.retarget_to.Statement.{statement}

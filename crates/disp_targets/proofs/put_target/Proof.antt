@@ -1,13 +1,13 @@
--- `displacements::put_target` meets its contract. Assumes nothing.
+-- `disp_targets::put_target` meets its contract. Assumes nothing.
 use mathlib.Core.Path.{sym, ap, _∙_}
 use borrow.Author.Needs.{needs}
 use Rattle.words.specs.Answer.{said}
 use Rattle.writers.specs.Put.{putOf}
-use Rattle.displacements.specs.declared.TargetWord.{TargetWord}
-use Rattle.displacements.specs.Answer.{putTo, wordSaid}
-use Rattle.displacements.proofs.Targets.{beside}
-use Rattle.displacements.proofs.put_target.Statement.{statement}
-use Rattle.displacements.proofs.put_target.Tie as tie
+use Rattle.disp_targets.specs.declared.TargetWord.{TargetWord}
+use Rattle.disp_targets.specs.Target.{putTo, wordSaid}
+use Rattle.disp_targets.proofs.Targets.{beside}
+use Rattle.disp_targets.proofs.put_target.Statement.{statement}
+use Rattle.disp_targets.proofs.put_target.Tie as tie
 
 returns : tie.Need-returns
 returns c =

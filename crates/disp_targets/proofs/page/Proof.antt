@@ -1,8 +1,8 @@
--- `displacements::page` meets its contract. Assumes nothing.
+-- `disp_targets::page` meets its contract. Assumes nothing.
 use borrow.Author.Needs.{needs}
 use borrow.Author.Tests.{eq-eqb, ne-eqb}
-use Rattle.displacements.proofs.page.Statement.{statement}
-use Rattle.displacements.proofs.page.Tie as tie
+use Rattle.disp_targets.proofs.page.Statement.{statement}
+use Rattle.disp_targets.proofs.page.Tie as tie
 
 returns : tie.Need-returns
 returns c = simp (eq-eqb _ _ (c .if1 .taken))

@@ -17,13 +17,15 @@ use Rattle.words.specs.Said.{ok, no}
 use Rattle.words.specs.Place.{posOf, addressOf}
 use Rattle.words.specs.declared.Place.{Place}
 use Rattle.writers.specs.Put.{putOf}
 use Rattle.displacements.specs.Forms.{formOf, putIn}
-use Rattle.displacements.specs.Answer.{stepsOf, dispSaid, pageOf, between, targetSaid, lowOf, carrying, carried}
+use Rattle.displacements.specs.Answer.{stepsOf, dispSaid}
 use Rattle.displacements.specs.Says.{Based, Free, OnStep, InRange, word}
 use Rattle.displacements.proofs.Distances.{bits-steps}
 use Rattle.displacements.proofs.Answers.{answers}
-use Rattle.displacements.proofs.Targets.{carrying-parts, carried-parts, low-four}
-use Rattle.displacements.proofs.Demands.{exactly-4, exactly-5, elsewhere, arrives, bits-between, address-fits, emitted}
+use Rattle.displacements.proofs.Demands.{exactly-4, exactly-5, emitted}
+use Rattle.disp_targets.specs.Target.{pageOf, between, targetSaid, lowOf, carrying, carried}
+use Rattle.disp_targets.proofs.Targets.{carrying-parts, carried-parts, low-four}
+use Rattle.disp_targets.proofs.Demands.{elsewhere, arrives, bits-between, address-fits}
 
 -- the distance of a target's page from an address's
 abbrev pub pages : (t a : ℕ) → ℤ

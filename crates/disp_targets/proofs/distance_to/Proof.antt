@@ -1,4 +1,4 @@
--- `displacements::distance_to` meets its contract. Assumes nothing.
+-- `disp_targets::distance_to` meets its contract. Assumes nothing.
 use mathlib.Core.Path.{_≡_, ap, _∙_}
 use Prim.Native.Nat.{_+_, _-_, _%_, _^_}
 use native.Mathlib.Omega.{arith}
@@ -6,8 +6,8 @@ use borrow.Author.Needs.{needs}
 use mir.Facts.{toZ-ofZ}
 use mir.Syntax.{w64}
 use mir.Val.{toZ}
-use Rattle.displacements.proofs.distance_to.Statement.{statement}
-use Rattle.displacements.proofs.distance_to.Tie as tie
+use Rattle.disp_targets.proofs.distance_to.Statement.{statement}
+use Rattle.disp_targets.proofs.distance_to.Tie as tie
 
 returns : tie.Need-returns
 returns c =

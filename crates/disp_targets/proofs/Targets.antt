@@ -13,8 +13,8 @@ use Rattle.words.specs.Said.{Said, ok, no}
 use Rattle.words.specs.Listed.{packed}
 use Rattle.words.specs.declared.Place.{Place}
 use Rattle.words.proofs.Answers.{Short, list-back, not-both}
-use Rattle.displacements.specs.Answer.{targetSaid, lowOf, carrying, carried, putTo}
-use Rattle.displacements.proofs.Answers.{target-short}
+use Rattle.displacements.proofs.Answers.{short}
+use Rattle.disp_targets.specs.Target.{pageOf, between, targetSaid, lowOf, carrying, carried, putTo}
 
 module _ (n t : ℕ) where
   pub low-page : n ≡ 4 → lowOf n t ≡ some (t % 4096)
@@ -43,6 +43,10 @@ beside l s y ws z p q = ap (λ (k : Said (Place × Option ℕ)). (k, ws)) p ∙ 
 -- a refusal has nothing beside it, whatever it would carry
 carried-no : {A : Type 0} (l k : Option ℕ) (z : Said A × List ℕ) (n : ℕ) → z .0 ≡ no n → carried l z ≡ carried k z
 carried-no {A} l k z n e = ap (λ (x : Said A). carried l (x, z .1)) e ∙ sym (ap (λ (x : Said A). carried k (x, z .1)) e)
+
+-- a target has at most one word
+pub target-short : (n b t a : ℕ) → Short (targetSaid n b t a)
+target-short n b t a = short n b (between (pageOf n t) (pageOf n a))
 
 -- for either writer, of which all that is known is that it refuses what is refused
 module _ (put : Said (List ℕ) → Said Place × List ℕ) (refuses : (n : ℕ) → (m : ℕ) × (put (no n) .0 ≡ no m)) where

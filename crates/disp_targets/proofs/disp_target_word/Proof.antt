@@ -1,10 +1,10 @@
--- `displacements::disp_target_word` meets its contract. Assumes nothing.
+-- `disp_targets::disp_target_word` meets its contract. Assumes nothing.
 use mathlib.Core.Path.{sym, ap, _∙_}
 use borrow.Author.Needs.{needs}
 use Rattle.words.specs.Answer.{made}
-use Rattle.displacements.proofs.Targets.{with-page, with-none, with-refusal}
-use Rattle.displacements.proofs.disp_target_word.Statement.{statement}
-use Rattle.displacements.proofs.disp_target_word.Tie as tie
+use Rattle.disp_targets.proofs.Targets.{with-page, with-none, with-refusal}
+use Rattle.disp_targets.proofs.disp_target_word.Statement.{statement}
+use Rattle.disp_targets.proofs.disp_target_word.Tie as tie
 
 returns : tie.Need-returns
 returns c =

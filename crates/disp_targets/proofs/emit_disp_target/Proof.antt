@@ -1,4 +1,4 @@
--- `displacements::emit_disp_target` meets its contract. Assumes nothing.
+-- `disp_targets::emit_disp_target` meets its contract. Assumes nothing.
 use mathlib.Core.Path.{ap, _∙_}
 use borrow.Author.Needs.{needs}
 use Rattle.words.specs.Listed.{packed}
@@ -6,10 +6,10 @@ use Rattle.words.specs.Place.{addressOf}
 use Rattle.words.specs.declared.Address.{Address}
 use Rattle.writers.specs.Put.{putOf}
 use Rattle.writers.proofs.Writes.{put-no}
-use Rattle.displacements.specs.Answer.{targetSaid, lowOf, carrying, putTo}
-use Rattle.displacements.proofs.Targets.{put-target}
-use Rattle.displacements.proofs.emit_disp_target.Statement.{statement}
-use Rattle.displacements.proofs.emit_disp_target.Tie as tie
+use Rattle.disp_targets.specs.Target.{targetSaid, lowOf, carrying, putTo}
+use Rattle.disp_targets.proofs.Targets.{put-target}
+use Rattle.disp_targets.proofs.emit_disp_target.Statement.{statement}
+use Rattle.disp_targets.proofs.emit_disp_target.Tie as tie
 
 returns : tie.Need-returns
 returns c =

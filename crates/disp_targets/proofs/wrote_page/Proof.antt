@@ -1,8 +1,8 @@
--- `displacements::wrote_page` meets its contract. Assumes nothing.
+-- `disp_targets::wrote_page` meets its contract. Assumes nothing.
 use mathlib.Core.Path.{refl}
 use borrow.Author.Needs.{needs}
-use Rattle.displacements.proofs.wrote_page.Statement.{statement}
-use Rattle.displacements.proofs.wrote_page.Tie as tie
+use Rattle.disp_targets.proofs.wrote_page.Statement.{statement}
+use Rattle.disp_targets.proofs.wrote_page.Tie as tie
 
 returns : tie.Need-returns
 returns c = rw (c .before .w .given .1) refl

@@ -1,0 +1,2 @@
+-- What targets are asked for: what the entries say.
+pub mod Target
