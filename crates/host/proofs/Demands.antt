@@ -1,26 +1,21 @@
--- What a host reads and finds after a call of each entry, over the definitions that the contracts cite. Assumes nothing.
+-- What a host reads and finds after any call, over the definitions that the contracts cite. Assumes nothing.
 use mathlib.Core.Path.{_≡_, refl, sym, ap, subst, subst⁻¹, _∙_}
-use mathlib.Core.Logic.{_⊎_, ⊎-elim}
-use mathlib.Core.Bool.{Bool, true, false, cond, not, _||_}
+use mathlib.Core.Logic.{_⊎_}
+use mathlib.Core.Bool.{Bool, true, false, cond}
 use mathlib.Core.List.{List}
 use mathlib.Core.Option.{Option, some, none}
-use Prim.Native.Nat.{ℕ, _+_, _-_, _*_, _%_, _^_, _≤_, _<_}
-use native.Mathlib.Nat.{mod-lt, lt-of-lt-of-le}
+use Prim.Native.Nat.{ℕ, _+_, _-_, _*_, _%_, _≤_, _<_}
+use native.Mathlib.Nat.{mod-lt}
 use native.Mathlib.Omega.{arith}
-use borrow.Author.Tests.{ltb-false}
-use lib.Dec.{ltb, eqb}
-use lib.IntN.{ℤ}
+use lib.Dec.{eqb}
 use lib.ListN.{length, getD}
-use lib.Pow.{pow-mono, pow-pos}
+use lib.Pow.{pow-pos}
 use lib.Seq.{slice}
-use lib.Signed.{mag}
-use mir.Syntax.{w64}
-use mir.Val.{toZ}
 use Rattle.words.specs.Said.{Said, ok, no}
 use Rattle.words.specs.Answer.{IsNumber}
 use Rattle.words.specs.Place.{posOf, Aligned}
 use Rattle.words.specs.declared.Place.{Place}
-use Rattle.words.specs.declared.Refusal.the-variants.{Width, Register, NoField, Unknown, NoRoom, Unaligned}
+use Rattle.words.specs.declared.Refusal.the-variants.{Width, Register, NoRoom, Unaligned}
 use Rattle.writers.specs.Put.{allBytes, putBytesOf}
 use Rattle.writers.specs.Says.{unaligned, refused, full, done, PutsBytes}
 use Rattle.words.proofs.Answers.{Alone, Numbered, number-fits}
@@ -29,20 +24,10 @@ use Rattle.moves.specs.Moves.{movSaid}
 use Rattle.moves.proofs.Lengths.{mov-by, mov-some}
 use Rattle.patchable_moves.specs.Patchable.{patchSaid}
 use Rattle.patchable_moves.proofs.Lengths.{patch-by, patch64-length, patch32-length}
-use Rattle.logical.specs.Answer.{Encoded}
-use Rattle.logical.specs.declared.LogicalImm.{LogicalImm}
-use Rattle.logical.proofs.Laws.{length-low}
-use Rattle.logical_words.specs.Word.{baseOf, filled, wordOf}
-use Rattle.forms.specs.Form.{hasForm, formSaid}
-use Rattle.forms.proofs.Formats.{each}
-use Rattle.displacements.specs.Answer.{dispSaid, readSaid, offset}
-use Rattle.displacements.specs.Forms.{formOf, fieldIn, step}
-use Rattle.displacements.proofs.Answers.{alone, numbered}
-use Rattle.displacements.proofs.Laws.{sound, arm-reads, offset-lt}
 use Rattle.disp_targets.specs.Target.{lowOf, carrying, carried}
-use Rattle.host.specs.Number.{told, refusalIn, Reads, counted, hostPut, lowBits, countedTo, hostToOf, hostPutTo, countIn, lowIn, spelled, yesNo}
+use Rattle.host.specs.Number.{told, refusalIn, Reads, counted, hostPut, lowBits, countedTo, hostToOf, hostPutTo, countIn, lowIn}
 use Rattle.host.proofs.Laws.{counted-none, hosted-none}
-use Rattle.host.proofs.Reading.{Small, told-reads, told-parts, Bytes, told-bytes, extended-mag}
+use Rattle.host.proofs.Reading.{Small, told-reads, told-parts}
 
 -- ---- all that write
 
@@ -150,74 +135,15 @@ module _ (l : List ℕ) (at : Place) (n : ℕ) (l′ : List ℕ) where
   pub stands : (x : Said (List ℕ)) → Sane x → Called x → refusalIn n ≡ 0 → (vs : List ℕ) × (x ≡ ok vs) × Stands none vs
   stands x h e = stands-to none x low-none h (plainly x e)
 
--- ---- each entry's words are four at most, and its refusals have numbers
+-- one word, or a refusal's number
+pub one-sane : (x : Said (List ℕ)) → Alone x → Numbered x → Sane x
+one-sane (ok ws) a n = omega arith
+one-sane (no k) a n = n
+
+-- ---- the moves' words are four at most, and their refusals have numbers
 
 pub move-sane : (v rd : ℕ) → Sane (movSaid v rd)
 move-sane v rd = mov-by v rd Sane (λ h. (Register, refl)) (λ l. mov-some v rd .most)
 
 pub patchable-sane : (v size rd : ℕ) → Sane (patchSaid v size rd)
 patchable-sane v size rd = patch-by v size rd Sane (Width, refl) (Register, refl) (λ e l. omega (arith, patch64-length v rd)) (λ e l. omega (arith, patch32-length v rd))
-
--- one word, or a refusal's number
-one-sane : (x : Said (List ℕ)) → Alone x → Numbered x → Sane x
-one-sane (ok ws) a n = omega arith
-one-sane (no k) a n = n
-
-pub displacement-sane : (n b : ℕ) (d : ℤ) → Sane (dispSaid n b d)
-displacement-sane n b d = one-sane (dispSaid n b d) (alone n b d) (numbered n b d)
-
--- the encoder's numbers are 1 and 3
-pub number-sane : (w v k : ℕ) → Encoded w v (no k) → IsNumber k
-number-sane w v k h = ⊎-elim (λ a. (Width, sym (a .0))) (λ b. (NoField, sym (b .0))) h
-
-pub word-sane : (operation w v rn rd : ℕ) (a : Said LogicalImm) → Encoded w v a → Sane (wordOf operation w rn rd a)
-unfolding wordOf
-word-sane operation w v rn rd a = go (ltb 3 operation) (not (eqb w 32 || eqb w 64)) (ltb 31 rn || ltb 31 rd) a
-  where
-    go : (b c d : Bool) (a : Said LogicalImm) → Encoded w v a → Sane (cond b (no 7) (cond c (no 1) (cond d (no 2) (filled (baseOf operation w) rn rd a))))
-    go true c d a h = (Unknown, refl)
-    go false true d a h = (Width, refl)
-    go false false true a h = (Register, refl)
-    go false false false (ok f) h = omega arith
-    go false false false (no k) h = number-sane w v k h
-
--- ---- those that write nothing
-
-pub fields-read : (w v n : ℕ) (a : Said LogicalImm) → Encoded w v a → n ≡ told (spelled a) → Reads n (spelled a)
-fields-read w v n a h e = subst⁻¹ (λ (k : ℕ). Reads k (spelled a)) e (told-reads (spelled a) (small a h))
-  where
-    small : (a : Said LogicalImm) → Encoded w v a → Small (spelled a)
-    small (ok f) h = omega (arith, h .1 .legal .n-bits, h .1 .legal .s-bits, h .1 .legal .r-bits, length-low (h .0) (h .1 .legal) (h .3))
-    small (no k) h = number-sane w v k h
-
--- each from its byte; and the low 32 bits are what the whole answer was before the length joined it
-pub fields-apart : (w v n : ℕ) (f : LogicalImm) → Encoded w v (ok f) → n ≡ told (spelled (ok f)) → Bytes n (f .r) (f .s) (f .n) (f .length)
-fields-apart w v n f h e =
-    told-bytes n (f .r) (f .s) (f .n) (f .length) e (omega (arith, h .1 .legal .r-bits)) (omega (arith, h .1 .legal .s-bits))
-    (omega (arith, h .1 .legal .n-bits)) (omega (arith, length-low (h .0) (h .1 .legal) (h .3)))
-
-pub form-read : (n w r : ℕ) → r ≡ told (yesNo (formSaid n w)) → Reads r (yesNo (formSaid n w))
-form-read n w r e = subst⁻¹ (λ (k : ℕ). Reads k (yesNo (formSaid n w))) e (told-reads (yesNo (formSaid n w)) (go (ltb 5 n) (hasForm n w)))
-  where
-    go : (b v : Bool) → Small (yesNo (cond b (no 7) (ok v)))
-    go true v = (Unknown, refl)
-    go false true = omega arith
-    go false false = omega arith
-
-pub distance-read : (w n r : ℕ) → r ≡ told (readSaid w n) → Reads r (readSaid w n)
-distance-read w n r e = subst⁻¹ (λ (k : ℕ). Reads k (readSaid w n)) e (told-reads (readSaid w n) (go (ltb 5 n) refl))
-  where
-    narrow : (n : ℕ) → n < 6 → formOf n .bits + formOf n .scale ≤ 33
-    narrow = each (λ n. formOf n .bits + formOf n .scale ≤ 33) (omega arith) (omega arith) (omega arith) (omega arith) (omega arith) (omega arith)
-
-    near : n < 6 → mag (toZ w64 (offset n w)) < 2 ^ 55
-    near h =
-        let f = formOf n in
-        let s = sound n h in
-        let t = narrow n h in
-        rw (← arm-reads w n h)
-        (lt-of-lt-of-le (extended-mag (f .bits + f .scale) (fieldIn f w * step f) (omega (arith, s .some)) (omega arith) (offset-lt f s w)) (pow-mono {j = 55} (omega arith)))
-
-    go : (b : Bool) → ltb 5 n ≡ b → Small (cond b (no 7) (ok (toZ w64 (offset n w))))
-    go true q = (Unknown, refl)
-    go false q = near (omega (arith, ltb-false 5 n q))

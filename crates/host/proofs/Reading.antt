@@ -16,7 +16,7 @@ use Rattle.arm.proofs.SignExtends.{double, extend}
 use Rattle.words.specs.Said.{Said, ok, no}
 use Rattle.words.specs.Answer.{IsNumber}
 use Rattle.words.proofs.Answers.{number-fits}
-use Rattle.host.specs.Number.{told, Reads, countIn, lowIn, byteIn}
+use Rattle.host.specs.Number.{told, Reads, countIn, lowIn}
 
 abbrev pub Small : Said ℤ → Type 0
 Small (ok v) = mag v < 2 ^ 55
@@ -38,23 +38,6 @@ told-parts n c l e h f =
     let above : n / 256 ≡ c + l * 256 = omega (arith, whole) in
     let top : n / 65536 ≡ l = omega (arith, whole) in
     (rw above (omega arith), rw top (omega arith))
-
--- four bytes above the low byte are read apart; the lower three are all of the low 32 bits
-pub record Bytes (n a b c d : ℕ) : Type 0 where
-  pub first : byteIn 1 n ≡ a
-  pub second : byteIn 2 n ≡ b
-  pub third : byteIn 3 n ≡ c
-  pub fourth : byteIn 4 n ≡ d
-  pub three : n % 2 ^ 32 ≡ (c * 2 ^ 16 + b * 2 ^ 8 + a) * 2 ^ 8
-
-pub told-bytes : (n a b c d : ℕ) → n ≡ told (ok (pos (d * 2 ^ 24 + c * 2 ^ 16 + b * 2 ^ 8 + a))) → a < 256 → b < 256 → c < 256 → d < 256 → Bytes n a b c d
-told-bytes n a b c d e ha hb hc hd =
-    let whole : n ≡ d * 4294967296 + c * 16777216 + b * 65536 + a * 256 = omega (arith, e) in
-    let one : n / 256 ≡ d * 16777216 + c * 65536 + b * 256 + a = omega (arith, whole) in
-    let two : n / 65536 ≡ d * 65536 + c * 256 + b = omega (arith, whole) in
-    let three : n / 16777216 ≡ d * 256 + c = omega (arith, whole) in
-    let four : n / 4294967296 ≡ d = omega (arith, whole) in
-    record { first = rw one (omega arith); second = rw two (omega arith); third = rw three (omega arith); fourth = rw four (omega arith); three = omega (arith, whole) }
 
 -- a number of t bits, sign-extended, is read as one from - 2 ^ (t - 1) up to below 2 ^ (t - 1)
 pub extended-mag : (t v : ℕ) → 1 ≤ t → t ≤ 64 → v < 2 ^ t → mag (toZ w64 (SignExtend t v)) < 2 ^ (t - 1)

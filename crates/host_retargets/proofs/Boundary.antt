@@ -31,8 +31,10 @@ use Rattle.retargets.proofs.Answers.{word-there, word-missing, again-7, again-m
 use Rattle.retargets.proofs.Demands.{the-same, again-kept, sent}
 use Rattle.host.specs.Number.{refusalIn, lowBits, lowIn}
 use Rattle.host.specs.Number as number
-use Rattle.host.proofs.Demands.{Sane, target-low, fifteen, fifteen-to, stands-to, displacement-sane}
-use Rattle.host.proofs.Boundary.{Refusals, Read, Instruction, reads-back, formed, found-one, found-to, refusal, refusal-to}
+use Rattle.host.proofs.Demands.{Sane, target-low, fifteen, fifteen-to, stands-to}
+use Rattle.host.proofs.Boundary.{Refusals, found-one, found-to, refusal, refusal-to}
+use Rattle.host_displacements.proofs.Demands.{displacement-sane}
+use Rattle.host_displacements.proofs.Boundary.{Read, Instruction, reads-back, formed}
 use Rattle.host_retargets.proofs.vaimalofo_retarget.Reads as retarget
 use Rattle.host_retargets.proofs.vaimalofo_retarget_to.Reads as retarget-to
 

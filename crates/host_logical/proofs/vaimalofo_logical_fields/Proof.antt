@@ -1,9 +1,9 @@
--- `host::vaimalofo_logical_fields` meets its contract. Assumes nothing.
+-- `host_logical::vaimalofo_logical_fields` meets its contract. Assumes nothing.
 use Rattle.words.specs.Said.{ok, no}
 use Rattle.logical.proofs.Laws.{length-low}
 use borrow.Author.Needs.{needs}
-use Rattle.host.proofs.vaimalofo_logical_fields.Statement.{statement}
-use Rattle.host.proofs.vaimalofo_logical_fields.Tie as tie
+use Rattle.host_logical.proofs.vaimalofo_logical_fields.Statement.{statement}
+use Rattle.host_logical.proofs.vaimalofo_logical_fields.Tie as tie
 
 spelled-requires : tie.Need-spelled-requires
 spelled-requires c κs =

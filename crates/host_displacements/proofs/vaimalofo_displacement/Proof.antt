@@ -1,4 +1,4 @@
--- `host::vaimalofo_displacement` meets its contract. Assumes nothing.
+-- `host_displacements::vaimalofo_displacement` meets its contract. Assumes nothing.
 use mathlib.Core.Path.{ap, _∙_}
 use mir.Facts.{toZ-ofZ}
 use Rattle.words.specs.Listed.{listed}
@@ -6,10 +6,10 @@ use Rattle.words.proofs.Answers.{listed-packed}
 use Rattle.displacements.specs.Answer.{dispSaid}
 use Rattle.displacements.proofs.Answers.{short}
 use Rattle.words.specs.Place.{placeAt}
 use Rattle.host.proofs.Laws.{asked}
 use borrow.Author.Needs.{needs}
-use Rattle.host.proofs.vaimalofo_displacement.Statement.{statement}
-use Rattle.host.proofs.vaimalofo_displacement.Tie as tie
+use Rattle.host_displacements.proofs.vaimalofo_displacement.Statement.{statement}
+use Rattle.host_displacements.proofs.vaimalofo_displacement.Tie as tie
 
 returns : tie.Need-returns
 returns c =

@@ -1,4 +1,4 @@
--- `host::vaimalofo_displacement_to` meets its contract. Assumes nothing.
+-- `host_displacements::vaimalofo_displacement_to` meets its contract. Assumes nothing.
 use mathlib.Core.Path.{ap, _∙_}
 use borrow.Author.Needs.{needs}
 use Rattle.words.specs.Listed.{packed}
@@ -6,10 +6,10 @@ use Rattle.words.specs.Place.{placeAt, addressOf}
 use Rattle.words.specs.declared.Address.{Address}
 use Rattle.words.specs.declared.Place.{Place}
 use Rattle.disp_targets.specs.Target.{targetSaid, lowOf, carrying}
 use Rattle.host.specs.Number.{hostTarget}
 use Rattle.host.proofs.Laws.{landed}
-use Rattle.host.proofs.vaimalofo_displacement_to.Statement.{statement}
-use Rattle.host.proofs.vaimalofo_displacement_to.Tie as tie
+use Rattle.host_displacements.proofs.vaimalofo_displacement_to.Statement.{statement}
+use Rattle.host_displacements.proofs.vaimalofo_displacement_to.Tie as tie
 
 returns : tie.Need-returns
 returns c =

@@ -2,28 +2,29 @@
 use mathlib.Core.Path.{_≡_, refl, sym, ap, subst, subst⁻¹, _∙_}
 use mathlib.Core.Logic.{⊎-elim}
 use mathlib.Core.List.{List, [], _∷_}
-use Prim.Native.Nat.{ℕ, _+_, _*_, _/_, _%_, _^_, _≤_}
+use Prim.Native.Nat.{ℕ, _+_, _*_, _/_, _%_, _^_}
 use native.Mathlib.Nat.{mod-le}
 use native.Mathlib.Omega.{arith}
 use contract.Lifetimes.{Lfts}
 use denote.Ref.{RefT, now}
 use lib.ListN.{getD}
-use Rattle.arm.specs.BitMasks.{Legal, esize}
+use Rattle.arm.specs.BitMasks.{esize}
 use Rattle.words.specs.Said.{Said, ok, no}
 use Rattle.words.specs.Place.{placeAt}
-use Rattle.words.specs.Answer.{IsNumber}
 use Rattle.words.specs.declared.Refusal.the-variants.{Width, NoField}
 use Rattle.words.proofs.Answers.{number-fits, not-both}
-use Rattle.logical.specs.Answer.{Decodes, fields}
+use Rattle.logical.specs.Answer.{Decodes}
 use Rattle.logical.specs.declared.LogicalImm.{LogicalImm}
 use Rattle.logical.proofs.Laws.{length-low}
 use Rattle.logical_decoder.specs.Answer.{Decoded, Normal}
-use Rattle.host.specs.Number.{told, refusalIn, Reads, wordsFrom, spelled, fieldsIn, maskWords, maskIn}
-use Rattle.host.proofs.Reading.{Small, told-reads, Bytes, told-bytes}
+use Rattle.host.specs.Number.{told, refusalIn, Reads, wordsFrom}
+use Rattle.host_logical.specs.Fields.{spelled, fieldsIn, maskWords, maskIn}
+use Rattle.host.proofs.Reading.{Small, told-reads}
 use Rattle.host.proofs.Demands.{Sane}
 use Rattle.host.proofs.Boundary.{Refusals, known, found, refusal}
-use Rattle.host.proofs.vaimalofo_normalise_logical.Reads as normalise-logical
-use Rattle.host.proofs.vaimalofo_decode_logical.Reads as decode-logical
+use Rattle.host_logical.proofs.Reading.{told-bytes}
+use Rattle.host_logical.proofs.vaimalofo_normalise_logical.Reads as normalise-logical
+use Rattle.host_logical.proofs.vaimalofo_decode_logical.Reads as decode-logical
 
 -- ---- the decoder
 

@@ -1,4 +1,4 @@
--- `host::vaimalofo_normalise_logical` meets its contract. Assumes nothing.
+-- `host_logical::vaimalofo_normalise_logical` meets its contract. Assumes nothing.
 use mathlib.Core.Path.{refl}
 use native.Mathlib.Nat.{mod-le}
 use native.Mathlib.Omega.{arith}
@@ -6,8 +6,8 @@ use borrow.Author.Needs.{needs}
 use Rattle.arm.specs.BitMasks.{esize}
 use Rattle.words.specs.Said.{ok, no}
 use Rattle.logical.proofs.Laws.{length-low}
-use Rattle.host.proofs.vaimalofo_normalise_logical.Statement.{statement}
-use Rattle.host.proofs.vaimalofo_normalise_logical.Tie as tie
+use Rattle.host_logical.proofs.vaimalofo_normalise_logical.Statement.{statement}
+use Rattle.host_logical.proofs.vaimalofo_normalise_logical.Tie as tie
 
 spelled-requires : tie.Need-spelled-requires
 spelled-requires c κs =

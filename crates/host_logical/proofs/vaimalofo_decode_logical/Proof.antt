@@ -1,11 +1,11 @@
--- `host::vaimalofo_decode_logical` meets its contract. Assumes nothing.
+-- `host_logical::vaimalofo_decode_logical` meets its contract. Assumes nothing.
 use mathlib.Core.Path.{ap, _∙_}
 use borrow.Author.Needs.{needs}
 use Rattle.words.specs.Said.{ok, no}
 use Rattle.words.specs.Place.{placeAt}
 use Rattle.host.specs.Number.{hostPut}
-use Rattle.host.proofs.vaimalofo_decode_logical.Statement.{statement}
-use Rattle.host.proofs.vaimalofo_decode_logical.Tie as tie
+use Rattle.host_logical.proofs.vaimalofo_decode_logical.Statement.{statement}
+use Rattle.host_logical.proofs.vaimalofo_decode_logical.Tie as tie
 
 returns : tie.Need-returns
 returns c =

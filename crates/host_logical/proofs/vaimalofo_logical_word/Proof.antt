@@ -1,10 +1,10 @@
--- `host::vaimalofo_logical_word` meets its contract. Assumes nothing.
+-- `host_logical::vaimalofo_logical_word` meets its contract. Assumes nothing.
 use Rattle.logical_words.proofs.Word.{word-listed}
 use Rattle.words.specs.Place.{placeAt}
 use Rattle.host.proofs.Laws.{asked}
 use borrow.Author.Needs.{needs}
-use Rattle.host.proofs.vaimalofo_logical_word.Statement.{statement}
-use Rattle.host.proofs.vaimalofo_logical_word.Tie as tie
+use Rattle.host_logical.proofs.vaimalofo_logical_word.Statement.{statement}
+use Rattle.host_logical.proofs.vaimalofo_logical_word.Tie as tie
 
 returns : tie.Need-returns
 returns c =

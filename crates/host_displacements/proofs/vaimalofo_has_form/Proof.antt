@@ -1,7 +1,7 @@
--- `host::vaimalofo_has_form` meets its contract. Assumes nothing.
+-- `host_displacements::vaimalofo_has_form` meets its contract. Assumes nothing.
 use borrow.Author.Needs.{needs}
-use Rattle.host.proofs.vaimalofo_has_form.Statement.{statement}
-use Rattle.host.proofs.vaimalofo_has_form.Tie as tie
+use Rattle.host_displacements.proofs.vaimalofo_has_form.Statement.{statement}
+use Rattle.host_displacements.proofs.vaimalofo_has_form.Tie as tie
 
 returns : tie.Need-returns
 returns c =

@@ -1,11 +1,11 @@
--- `host::vaimalofo_read_displacement` meets its contract. Assumes nothing.
+-- `host_displacements::vaimalofo_read_displacement` meets its contract. Assumes nothing.
 use mathlib.Core.Path.{ap}
 use Prim.Native.Nat.{ℕ, _*_, _%_, _^_}
 use mir.Facts.{toZ-ofZ}
 use mir.Syntax.{w64}
 use borrow.Author.Needs.{needs}
-use Rattle.host.proofs.vaimalofo_read_displacement.Statement.{statement}
-use Rattle.host.proofs.vaimalofo_read_displacement.Tie as tie
+use Rattle.host_displacements.proofs.vaimalofo_read_displacement.Statement.{statement}
+use Rattle.host_displacements.proofs.vaimalofo_read_displacement.Tie as tie
 
 returns : tie.Need-returns
 returns c =

@@ -1,0 +1,2 @@
+-- What the entries on logical immediates answer.
+pub mod Fields
