@@ -1,7 +1,6 @@
 -- What a host reads from the answers of the entries on displacements, over the definitions that their contracts cite. Assumes nothing.
 use mathlib.Core.Path.{_≡_, refl, subst⁻¹}
 use mathlib.Core.Bool.{Bool, true, false, cond}
-use mathlib.Core.Option.{some}
 use Prim.Native.Nat.{ℕ, _+_, _*_, _^_, _≤_, _<_}
 use native.Mathlib.Nat.{lt-of-lt-of-le}
 use native.Mathlib.Omega.{arith}

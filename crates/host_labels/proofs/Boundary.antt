@@ -1,12 +1,12 @@
 -- Demands 1 and 2 at the host's boundary, by the entries' own contracts: what a host reads from the number of a call, and what it finds in the table,
 -- the sheet and the run that it lent. A refusal is one of the refusals' numbers, and leaves them as they were. Assumes nothing.
 use mathlib.Core.Path.{_≡_, refl, sym, ap, subst, _∙_}
-use mathlib.Core.List.{List, [], _∷_}
+use mathlib.Core.List.{List}
 use Prim.Native.Nat.{ℕ, _+_, _%_, _^_, _<_}
 use native.Mathlib.Omega.{arith}
-use lib.IntN.{ℤ, pos}
+use lib.IntN.{pos}
 use lib.ListN.{length, getD, set, take}
-use Rattle.words.specs.Said.{Said, ok, no}
+use Rattle.words.specs.Said.{Said, ok}
 use Rattle.words.specs.Place.{placeAt, baseOf, posOf, addressOf, Aligned}
 use Rattle.words.specs.declared.Place.{Place}
 use Rattle.displacements.specs.Answer.{offset}

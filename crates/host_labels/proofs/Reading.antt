@@ -3,11 +3,11 @@ use mathlib.Core.Path.{_≡_, refl, ap}
 use Prim.Native.Nat.{ℕ, zero, suc}
 use native.Mathlib.Omega.{arith}
 use lib.IntN.{ℤ}
-use Rattle.words.specs.Said.{Said, ok, no}
+use Rattle.words.specs.Said.{ok, no}
 use Rattle.words.proofs.Answers.{number-fits}
 use Rattle.labels.specs.Order.{answer}
 use Rattle.labels.proofs.Tests.{Coded}
-use Rattle.host.specs.Number.{told, Reads, refusalIn}
+use Rattle.host.specs.Number.{Reads, refusalIn}
 use Rattle.host.proofs.Reading.{Small, told-reads}
 use Rattle.host_labels.specs.Number.{valued, numbering}
 

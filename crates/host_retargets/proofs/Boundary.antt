@@ -1,11 +1,10 @@
 -- Demand 2 at the host's boundary, of a word already written: by the entry's own contract the word in the bytes is the old one with the distance that
 -- was asked for, read by the reader and by Arm. And a refusal is one of the refusals' numbers. Assumes nothing.
-use mathlib.Core.Path.{_≡_, refl, sym, ap, _∙_}
+use mathlib.Core.Path.{_≡_, refl, ap, _∙_}
 use mathlib.Core.Bool.{Bool, true, false}
 use mathlib.Core.List.{List, [], _∷_}
 use mathlib.Core.Option.{Option}
-use Prim.Native.Nat.{ℕ, _+_, _%_, _^_, _<_, _≤_}
-use native.Mathlib.Omega.{arith}
+use Prim.Native.Nat.{ℕ, _+_, _%_, _^_, _<_}
 use borrow.Author.Tests.{ltb-true, ltb-false}
 use contract.Lifetimes.{Lfts}
 use denote.Ref.{RefT, now}
