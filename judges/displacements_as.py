@@ -9,7 +9,7 @@ read all lines: who writes them must not meet a closed pipe.
 import sys
 import tempfile
 
-from gnu import assemble, close, lacks
+from gnu import assemble, close, lacks, sorted_out
 
 CONDITIONS = "eq ne cs cc mi pl vs vc hi ls ge lt gt le al nv".split()
 
@@ -85,8 +85,7 @@ def main():
     if lacks("as", "ld", "objcopy"):
         return 0
     asked = [parse(l) for l in lines]
-    failures = {i: why for i, (text, why) in enumerate(asked) if text is None}
-    known = [i for i in range(len(lines)) if i not in failures]
+    failures, known = sorted_out(asked)
     with tempfile.TemporaryDirectory() as folder:
         words, refused = assemble([asked[i][0] for i in known], folder) if known else ([], {})
     for k, i in enumerate(known):

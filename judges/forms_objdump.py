@@ -10,7 +10,7 @@ import re
 import sys
 import tempfile
 
-from gnu import close, disassemble, lacks
+from gnu import close, disassemble, lacks, sorted_out
 
 # An address stands alone: a register or a vector in its place is in brackets, as in LDR (register) and the ADR of SVE.
 ADDRESS = r"0x[0-9a-f]+"
@@ -38,8 +38,7 @@ def main():
     if lacks("objdump"):
         return 0
     given = [parse(l) for l in lines]
-    failures = {i: why for i, (word, why, *_) in enumerate(given) if word is None}
-    known = [i for i in range(len(lines)) if i not in failures]
+    failures, known = sorted_out(given)
     with tempfile.TemporaryDirectory() as folder:
         texts = disassemble([given[i][0] for i in known], folder) if known else []
     for i, text in zip(known, texts):

@@ -60,6 +60,12 @@ def disassemble(words, folder):
     return [" ".join(line.split("//")[0].split()) for line in lines]
 
 
+def sorted_out(parsed):
+    """Of what lines were parsed to, in which None stands first and why behind it: why by the line's number, and the numbers of the others."""
+    failures = {i: why for i, (first, why, *_) in enumerate(parsed) if first is None}
+    return failures, [i for i in range(len(parsed)) if i not in failures]
+
+
 def close(lines, failures):
     """Says which lines failed and why, then how many; the exit status."""
     for i in sorted(failures)[:SHOWN]:

@@ -13,7 +13,7 @@ import struct
 import sys
 import tempfile
 
-from gnu import close, lacks, run
+from gnu import close, lacks, run, sorted_out
 from targets_ld import instruction, section_bytes
 
 SHOWN = 80
@@ -88,8 +88,7 @@ def main():
     if lacks("as", "ld"):
         return 0
     given = [parse(l) for l in lines]
-    failures = {i: why for i, (address, why, *_) in enumerate(given) if address is None}
-    known = [i for i in range(len(lines)) if i not in failures]
+    failures, known = sorted_out(given)
     with tempfile.TemporaryDirectory() as folder:
         answers = link([given[i] for i in known], folder) if known else []
     for i, words in zip(known, answers):

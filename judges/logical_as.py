@@ -9,7 +9,7 @@ missing it says `skipped: ..` and exits 0, after it has read all lines: who writ
 import sys
 import tempfile
 
-from gnu import assemble, close, disassemble, lacks
+from gnu import assemble, close, disassemble, lacks, sorted_out
 
 OPERATIONS = ["and", "orr", "eor", "ands"]
 
@@ -40,8 +40,7 @@ def main():
     if lacks("as", "ld", "objcopy", "objdump"):
         return 0
     asked = [parse(l) for l in lines]
-    failures = {i: why for i, (text, why) in enumerate(asked) if text is None}
-    known = [i for i in range(len(lines)) if i not in failures]
+    failures, known = sorted_out(asked)
     spelled = [i for i in known if asked[i][1] is not None]
     with tempfile.TemporaryDirectory() as folder:
         words, refused = assemble([asked[i][0] for i in known], folder) if known else ([], {})

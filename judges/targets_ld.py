@@ -15,7 +15,7 @@ import sys
 import tempfile
 
 from displacements_as import FORMATS, adrp
-from gnu import close, lacks, run
+from gnu import close, lacks, run, sorted_out
 
 # Words that one run of the linker is given: each has a section of its own.
 BATCH = 2500
@@ -97,8 +97,7 @@ def main():
     if lacks("as", "ld"):
         return 0
     given = [parse(l) for l in lines]
-    failures = {i: why for i, (address, why, *_) in enumerate(given) if address is None}
-    known = [i for i in range(len(lines)) if i not in failures]
+    failures, known = sorted_out(given)
     for start in range(0, len(known), BATCH):
         batch = known[start : start + BATCH]
         with tempfile.TemporaryDirectory() as folder:
