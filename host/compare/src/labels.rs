@@ -550,144 +550,98 @@ mod tests {
 
     #[test]
     fn the_end_is_no_place() {
-        fn bind(labels: &mut [usize], words: &[u32], at: Place, n: u32) -> Result<(), Refusal> {
-            match plain::bind(labels, words, at, n) {
-                Ok(()) if at.position.0 == words.len() => {
-                    labels[n as usize] = 0;
-                    Err(Refusal::NoRoom)
-                }
-                said => said,
+        let bind: Bind = |labels, words, at, n| match plain::bind(labels, words, at, n) {
+            Ok(()) if at.position.0 == words.len() => {
+                labels[n as usize] = 0;
+                Err(Refusal::NoRoom)
             }
-        }
+            said => said,
+        };
         assert!(failed(Entries { bind, ..PLAIN }).failed > 0);
     }
 
     #[test]
     fn one_label_more() {
-        fn bind(labels: &mut [usize], words: &[u32], at: Place, n: u32) -> Result<(), Refusal> {
-            match plain::bind(labels, words, at, n) {
-                Err(Refusal::Label) if n == 256 && labels.len() > 256 => {
-                    plain::bind(&mut labels[1..], words, at, 255)
-                }
-                said => said,
+        let bind: Bind = |labels, words, at, n| match plain::bind(labels, words, at, n) {
+            Err(Refusal::Label) if n == 256 && labels.len() > 256 => {
+                plain::bind(&mut labels[1..], words, at, 255)
             }
-        }
+            said => said,
+        };
         assert!(failed(Entries { bind, ..PLAIN }).failed > 0);
     }
 
     /// 16 left out where a use is recorded.
     #[test]
     fn a_word_twice() {
-        fn add(
-            uses: &mut [Use],
-            count: usize,
-            labels: &[usize],
-            words: &[u32],
-            at: Place,
-            label: u32,
-            format: u32,
-        ) -> Result<usize, Refusal> {
-            match plain::use_label(uses, count, labels, words, at, label, format) {
-                Err(Refusal::Again) if count < uses.len().min(1024) => {
-                    uses[count] = Use { label, at: at.position.0, format };
-                    Ok(count + 1)
-                }
-                said => said,
+        let add: Add = |uses, count, labels, words, at, label, format| match plain::use_label(
+            uses, count, labels, words, at, label, format,
+        ) {
+            Err(Refusal::Again) if count < uses.len().min(1024) => {
+                uses[count] = Use { label, at: at.position.0, format };
+                Ok(count + 1)
             }
-        }
+            said => said,
+        };
         assert!(failed(Entries { add, ..PLAIN }).failed > 0);
     }
 
     /// 14 before 16.
     #[test]
     fn full_first() {
-        fn add(
-            uses: &mut [Use],
-            count: usize,
-            labels: &[usize],
-            words: &[u32],
-            at: Place,
-            label: u32,
-            format: u32,
-        ) -> Result<usize, Refusal> {
-            match plain::use_label(uses, count, labels, words, at, label, format) {
-                Err(Refusal::Again) if count >= uses.len().min(1024) => Err(Refusal::Full),
-                said => said,
-            }
-        }
+        let add: Add = |uses, count, labels, words, at, label, format| match plain::use_label(
+            uses, count, labels, words, at, label, format,
+        ) {
+            Err(Refusal::Again) if count >= uses.len().min(1024) => Err(Refusal::Full),
+            said => said,
+        };
         assert!(failed(Entries { add, ..PLAIN }).failed > 0);
     }
 
     /// The sheet's own length alone counts.
     #[test]
     fn one_use_more() {
-        fn add(
-            uses: &mut [Use],
-            count: usize,
-            labels: &[usize],
-            words: &[u32],
-            at: Place,
-            label: u32,
-            format: u32,
-        ) -> Result<usize, Refusal> {
-            match plain::use_label(uses, count, labels, words, at, label, format) {
-                Err(Refusal::Full) if count < uses.len() => {
-                    uses[count] = Use { label, at: at.position.0, format };
-                    Ok(count + 1)
-                }
-                said => said,
+        let add: Add = |uses, count, labels, words, at, label, format| match plain::use_label(
+            uses, count, labels, words, at, label, format,
+        ) {
+            Err(Refusal::Full) if count < uses.len() => {
+                uses[count] = Use { label, at: at.position.0, format };
+                Ok(count + 1)
             }
-        }
+            said => said,
+        };
         assert!(failed(Entries { add, ..PLAIN }).failed > 0);
     }
 
     /// 16 left out where uses are finished.
     #[test]
     fn finished_twice() {
-        fn finish(
-            uses: &[Use],
-            count: usize,
-            labels: &[usize],
-            words: &mut [u32],
-            base: Address,
-        ) -> Result<usize, Refusal> {
-            match plain::finish(uses, count, labels, words, base) {
-                Err(Refusal::Again) => Ok(0),
-                said => said,
-            }
-        }
+        let finish: Finish = |uses, count, labels, words, base| match plain::finish(
+            uses, count, labels, words, base,
+        ) {
+            Err(Refusal::Again) => Ok(0),
+            said => said,
+        };
         assert!(failed(Entries { finish, ..PLAIN }).failed > 0);
     }
 
     /// The uses before the one that is refused are written.
     #[test]
     fn finished_in_part() {
-        fn finish(
-            uses: &[Use],
-            count: usize,
-            labels: &[usize],
-            words: &mut [u32],
-            base: Address,
-        ) -> Result<usize, Refusal> {
+        let finish: Finish = |uses, count, labels, words, base| {
             plain::finish(uses, count, labels, words, base).inspect_err(|_| {
                 plain::finish(&uses[..1.min(uses.len())], 1, labels, words, base).ok();
             })
-        }
+        };
         assert!(failed(Entries { finish, ..PLAIN }).failed > 0);
     }
 
     /// Addresses from 0 on, whatever the base: an ADRP shows it.
     #[test]
     fn no_base() {
-        fn finish(
-            uses: &[Use],
-            count: usize,
-            labels: &[usize],
-            words: &mut [u32],
-            base: Address,
-        ) -> Result<usize, Refusal> {
+        let finish: Finish = |uses, count, labels, words, base| {
             plain::finish(uses, count, labels, words, Address(base.0 & 3))
-        }
+        };
         assert!(failed(Entries { finish, ..PLAIN }).failed > 0);
     }
 }
