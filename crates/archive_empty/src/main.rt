@@ -1,4 +1,6 @@
 // The archive program on an input of no bytes.
+#![tactic(auto)]
+
 fn main() {
     archives::run_all();
 }

@@ -1,7 +1,9 @@
 // Request a of document 02: an item of an archive into the bytes of its line, in a lent run of bytes. Lines are put part by part (`lines`).
+#![tactic(auto)]
+
 ghost use Rattle.std.specs.Prelude.{◌≡◌, [], ◌∷◌, ◌++◌, ◌+◌, ◌/◌, ◌%◌, ◌^◌};
 ghost use Rattle.lines.specs.Parts.{text, number, parts_at};
-ghost use Rattle.archive_lines.specs.Lines.{size_of, fewestOf, valueParts, constantParts, movkParts, operationParts, fieldsParts, logicalParts, displacementParts, itemParts, body_parts, parts_of, line_at};
+ghost use Rattle.archive_lines.specs.Lines.{size_of, fewest_of, value_parts, constant_parts, movk_parts, operation_parts, fields_parts, logical_parts, displacement_parts, item_parts, body_parts, parts_of, line_at};
 
 use archive_pieces::Told;
 use items::{Displacement, Item, LogicalWord};
@@ -19,7 +21,7 @@ fn put_field(out: &mut [u8], at: usize, name: &[u8], n: u64) -> usize
 
 // A value in sixteen hex digits.
 fn put_value(out: &mut [u8], at: usize, v: u64) -> usize
-    ensures { (result, out.new) ≡ parts_at (at, out.old) (valueParts v) }
+    ensures { (result, out.new) ≡ parts_at (at, out.old) (value_parts v) }
 {
     let p = lines::text(out, at, b" value ");
     let q = lines::word(out, p, (v / 4294967296) as u32);
@@ -35,7 +37,7 @@ fn size_of(sf: u32) -> u64
 
 // How many words a move of the value has; of what cannot be moved, its own.
 fn fewest(c: Constant) -> usize
-    ensures { result ≡ fewestOf c }
+    ensures { result ≡ fewest_of c }
 {
     match moves::mov_words(c.value, c.rd) {
         Worded::Made(w) => w.count,
@@ -45,7 +47,7 @@ fn fewest(c: Constant) -> usize
 
 // A constant, and whether fewer words would do.
 fn put_constant(out: &mut [u8], at: usize, c: Constant) -> usize
-    ensures { (result, out.new) ≡ parts_at (at, out.old) (constantParts c) }
+    ensures { (result, out.new) ≡ parts_at (at, out.old) (constant_parts c) }
 {
     let p = put_field(out, at, b" constant register ", c.rd as u64);
     let q = put_field(out, p, b" size ", size_of(c.sf));
@@ -60,7 +62,7 @@ fn put_constant(out: &mut [u8], at: usize, c: Constant) -> usize
 
 // A MOVK that belongs to no constant.
 fn put_movk(out: &mut [u8], at: usize, m: WideMove) -> usize
-    ensures { (result, out.new) ≡ parts_at (at, out.old) (movkParts m) }
+    ensures { (result, out.new) ≡ parts_at (at, out.old) (movk_parts m) }
 {
     let p = put_field(out, at, b" movk register ", m.rd as u64);
     let q = put_field(out, p, b" size ", size_of(m.sf));
@@ -71,7 +73,7 @@ fn put_movk(out: &mut [u8], at: usize, m: WideMove) -> usize
 
 // The name of a logical operation.
 fn put_operation(out: &mut [u8], at: usize, operation: u32) -> usize
-    ensures { (result, out.new) ≡ parts_at (at, out.old) (operationParts operation) }
+    ensures { (result, out.new) ≡ parts_at (at, out.old) (operation_parts operation) }
 {
     if operation == 0 {
         return lines::text(out, at, b" logical and");
@@ -87,7 +89,7 @@ fn put_operation(out: &mut [u8], at: usize, operation: u32) -> usize
 
 // The fields of a logical immediate.
 fn put_fields(out: &mut [u8], at: usize, l: LogicalWord) -> usize
-    ensures { (result, out.new) ≡ parts_at (at, out.old) (fieldsParts l) }
+    ensures { (result, out.new) ≡ parts_at (at, out.old) (fields_parts l) }
 {
     let p = put_field(out, at, b" fields ", l.n as u64);
     let q = put_field(out, p, b" ", l.s as u64);
@@ -101,7 +103,7 @@ fn put_fields(out: &mut [u8], at: usize, l: LogicalWord) -> usize
 
 // A logical immediate.
 fn put_logical(out: &mut [u8], at: usize, l: LogicalWord) -> usize
-    ensures { (result, out.new) ≡ parts_at (at, out.old) (logicalParts l) }
+    ensures { (result, out.new) ≡ parts_at (at, out.old) (logical_parts l) }
 {
     let p = put_operation(out, at, l.operation);
     let q = put_field(out, p, b" width ", l.width as u64);
@@ -113,7 +115,7 @@ fn put_logical(out: &mut [u8], at: usize, l: LogicalWord) -> usize
 
 // A displacement, with the sign of its distance.
 fn put_displacement(out: &mut [u8], at: usize, d: Displacement) -> usize
-    ensures { (result, out.new) ≡ parts_at (at, out.old) (displacementParts d) }
+    ensures { (result, out.new) ≡ parts_at (at, out.old) (displacement_parts d) }
 {
     let p = put_field(out, at, b" displacement format ", d.format as u64);
     let q = lines::text(out, p, b" base ");
@@ -127,7 +129,7 @@ fn put_displacement(out: &mut [u8], at: usize, d: Displacement) -> usize
 
 // What one word is.
 fn put_item(out: &mut [u8], at: usize, i: Item) -> usize
-    ensures { (result, out.new) ≡ parts_at (at, out.old) (itemParts i) }
+    ensures { (result, out.new) ≡ parts_at (at, out.old) (item_parts i) }
 {
     match i {
         Item::Wide(m) => put_movk(out, at, m),

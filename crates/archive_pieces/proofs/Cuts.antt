@@ -16,7 +16,7 @@ use Rattle.archive_pieces.specs.declared.Carried.TheVariants.{Nothing, Begun}
 use Rattle.archive_pieces.specs.declared.Step.{Step}
 use Rattle.archive_pieces.specs.declared.Step.TheVariants.{Tell, Carry}
 use Rattle.archive_pieces.specs.Steps.{step_of}
-use Rattle.archive_pieces.specs.Archive.{Items, end, joined, single, onBy, Pieces, none, last, tells, carries, joinedUp}
+use Rattle.archive_pieces.specs.Archive.{Items, end, joined, single, on_by, Pieces, none, last, tells, carries, joined_up}
 use Rattle.archive_pieces.proofs.Forward.{held, forward}
 use Rattle.archive_pieces.proofs.Whole.{pieces_whole}
 
@@ -25,68 +25,68 @@ use Rattle.archive_pieces.proofs.Whole.{pieces_whole}
 other : {c : Constant} {i : Item} {s u : Span} → found.Joined c s ≡ found.Single i u → ⊥
 other e = let z : ◌≡◌ {A = ℕ} 0 1 = cc in omega arith
 
-no-joined : {c : Constant} {s : Span} → found.End ≡ found.Joined c s → ⊥
-no-joined e = let z : ◌≡◌ {A = ℕ} 0 1 = cc in omega arith
+no_joined : {c : Constant} {s : Span} → found.End ≡ found.Joined c s → ⊥
+no_joined e = let z : ◌≡◌ {A = ℕ} 0 1 = cc in omega arith
 
-no-single : {i : Item} {s : Span} → found.End ≡ found.Single i s → ⊥
-no-single e = let z : ◌≡◌ {A = ℕ} 0 1 = cc in omega arith
+no_single : {i : Item} {s : Span} → found.End ≡ found.Single i s → ⊥
+no_single e = let z : ◌≡◌ {A = ℕ} 0 1 = cc in omega arith
 
-same-joined : {c d : Constant} {s u : Span} → found.Joined c s ≡ found.Joined d u → (c ≡ d) × (s ≡ u)
-same-joined e = (cc, cc)
+same_joined : {c d : Constant} {s u : Span} → found.Joined c s ≡ found.Joined d u → (c ≡ d) × (s ≡ u)
+same_joined e = (cc, cc)
 
-same-single : {i j : Item} {s u : Span} → found.Single i s ≡ found.Single j u → (i ≡ j) × (s ≡ u)
-same-single e = (cc, cc)
+same_single : {i j : Item} {s u : Span} → found.Single i s ≡ found.Single j u → (i ≡ j) × (s ≡ u)
+same_single e = (cc, cc)
 
 pub one_list : {ws : List ℕ} {at : ℕ} {ts us : List Told} → Items ws at ts → Items ws at us → ts ≡ us
 one_list (end e) (end f) = refl
-one_list (end e) (joined f q) = absurd (no-joined (sym e ∙ f))
-one_list (end e) (single f q) = absurd (no-single (sym e ∙ f))
-one_list (joined e p) (end f) = absurd (no-joined (sym f ∙ e))
+one_list (end e) (joined f q) = absurd (no_joined (sym e ∙ f))
+one_list (end e) (single f q) = absurd (no_single (sym e ∙ f))
+one_list (joined e p) (end f) = absurd (no_joined (sym f ∙ e))
 one_list {ws} {at} (joined {c = c} {ts = ts} e p) (joined {ts = us} f q) =
-    let o = same-joined (sym f ∙ e) in
+    let o = same_joined (sym f ∙ e) in
     rw o.0 (ap (λ (l : List Told). Joined c at ∷ l) (one_list p (rw o.1 at q)))
 one_list (joined e p) (single f q) = absurd (other (sym e ∙ f))
-one_list (single e p) (end f) = absurd (no-single (sym f ∙ e))
+one_list (single e p) (end f) = absurd (no_single (sym f ∙ e))
 one_list (single e p) (joined f q) = absurd (other (sym f ∙ e))
 one_list {ws} {at} (single {i = i} e p) (single f q) =
-    let o = same-single (sym f ∙ e) in
+    let o = same_single (sym f ∙ e) in
     rw o.0 (ap (λ (l : List Told). Single i at ∷ l) (one_list p (rw o.1 at q)))
 
 -- however it is cut
-pub cut-anyhow : (ps qs : List (List ℕ)) (ts us : List Told) → joinedUp ps ≡ joinedUp qs → length (joinedUp ps) < 2 ^ 64
+pub cut_anyhow : (ps qs : List (List ℕ)) (ts us : List Told) → joined_up ps ≡ joined_up qs → length (joined_up ps) < 2 ^ 64
     → Pieces Nothing 0 ps ts → Pieces Nothing 0 qs us → ts ≡ us
-cut-anyhow ps qs ts us e small p q =
+cut_anyhow ps qs ts us e small p q =
     one_list (pieces_whole ps ts small p) (rw e (pieces_whole qs us (rw (← e) small) q))
 
 -- ---- every cut is told to its end
 
 -- how many steps are left at most
 abbrev left : Carried → List (List ℕ) → ℕ
-left k ps = 2 * length (joinedUp ps) + 2 * length ps + held k
+left k ps = 2 * length (joined_up ps) + 2 * length ps + held k
 
-short-held : (k : Carried) → held k ≤ 1
-short-held Nothing = omega arith
-short-held (Begun c began) = omega arith
+short_held : (k : Carried) → held k ≤ 1
+short_held Nothing = omega arith
+short_held (Begun c began) = omega arith
 
-pub told-to-the-end : (m : ℕ) (k : Carried) (at : ℕ) (ps : List (List ℕ)) → left k ps ≤ m → (ts : List Told) × Pieces k at ps ts
-told-to-the-end m Nothing at [] h = ([], none)
-told-to-the-end m (Begun c began) at [] h = (Joined c began ∷ [], last)
-told-to-the-end zero k at (ws ∷ ps) h = absurd (omega arith)
-told-to-the-end (suc m) k at (ws ∷ ps) h =
-    go (step_of ws at k) refl (λ n. told-to-the-end m Nothing (onBy at n) (drop n ws ∷ ps)) (λ l. told-to-the-end m l (onBy at (length ws)) ps)
+pub told_to_the_end : (m : ℕ) (k : Carried) (at : ℕ) (ps : List (List ℕ)) → left k ps ≤ m → (ts : List Told) × Pieces k at ps ts
+told_to_the_end m Nothing at [] h = ([], none)
+told_to_the_end m (Begun c began) at [] h = (Joined c began ∷ [], last)
+told_to_the_end zero k at (ws ∷ ps) h = absurd (omega arith)
+told_to_the_end (suc m) k at (ws ∷ ps) h =
+    go (step_of ws at k) refl (λ n. told_to_the_end m Nothing (on_by at n) (drop n ws ∷ ps)) (λ l. told_to_the_end m l (on_by at (length ws)) ps)
   where
     fewer : (k : Carried) (n : ℕ) → n ≤ length ws → (k ≡ Nothing → 0 < n) → left k (ws ∷ ps) ≤ suc m → left Nothing (drop n ws ∷ ps) ≤ m
-    fewer Nothing n i f h = omega (arith, i, f refl, h, length-append ws (joinedUp ps), length-append (drop n ws) (joinedUp ps), length-drop n ws)
-    fewer (Begun c b) n i f h = omega (arith, i, h, length-append ws (joinedUp ps), length-append (drop n ws) (joinedUp ps), length-drop n ws)
+    fewer Nothing n i f h = omega (arith, i, f refl, h, length-append ws (joined_up ps), length-append (drop n ws) (joined_up ps), length-drop n ws)
+    fewer (Begun c b) n i f h = omega (arith, i, h, length-append ws (joined_up ps), length-append (drop n ws) (joined_up ps), length-drop n ws)
 
     go : (x : Step) → step_of ws at k ≡ x
-        → ((n : ℕ) → left Nothing (drop n ws ∷ ps) ≤ m → (ts : List Told) × Pieces Nothing (onBy at n) (drop n ws ∷ ps) ts)
-        → ((l : Carried) → left l ps ≤ m → (ts : List Told) × Pieces l (onBy at (length ws)) ps ts)
+        → ((n : ℕ) → left Nothing (drop n ws ∷ ps) ≤ m → (ts : List Told) × Pieces Nothing (on_by at n) (drop n ws ∷ ps) ts)
+        → ((l : Carried) → left l ps ≤ m → (ts : List Told) × Pieces l (on_by at (length ws)) ps ts)
         → (ts : List Told) × Pieces k at (ws ∷ ps) ts
     go (Tell t n) e again on =
         let f = forward ws at t n k e in
         let r = again n (fewer k n f.within f.later h) in
         (t ∷ r.0, tells e r.1)
     go (Carry l) e again on =
-        let r = on l (omega (arith, h, short-held l, length-append ws (joinedUp ps))) in
+        let r = on l (omega (arith, h, short_held l, length-append ws (joined_up ps))) in
         (r.0, carries e r.1)

@@ -2,14 +2,14 @@
 use mathlib.Core.Path.{refl}
 use mathlib.Core.List.{[], ◌∷◌}
 use Prim.Native.Nat.{ℕ}
-use Rattle.arm.specs.LogicalImmediate.{decodeLogical}
+use Rattle.arm.specs.LogicalImmediate.{decode_logical}
 use Rattle.arm.specs.MoveWide.{decode, exec, run}
 use Rattle.arm.proofs.Worked.{Worked}
-use Rattle.forms.specs.Form.{hasForm}
-use Rattle.items.specs.Items.{opc, formIn, other_of, item_of}
+use Rattle.forms.specs.Form.{is_of_form}
+use Rattle.items.specs.Items.{opc, form_number, other_of, item_of}
 use Rattle.items.specs.declared.Item.TheVariants as item
 use Rattle.reader.specs.declared.Constant.{Constant}
-use Rattle.reader.specs.Found.{leading, joinedOf, foundOf, joinedOn, resumedOf}
+use Rattle.reader.specs.Found.{leading, joined_of, found_of, joined_on, resumed_of}
 use Rattle.archive_pieces.specs.declared.Told.TheVariants.{Joined, Single}
 use Rattle.archive_pieces.specs.declared.Carried.TheVariants.{Nothing, Begun}
 use Rattle.archive_pieces.specs.declared.Step.TheVariants.{Tell, Carry}
@@ -30,5 +30,5 @@ pub stepped :
     ∷ (step_of (0xD503201F ∷ []) 2 (Begun (constant 1 1) 1), Tell (Joined (constant 1 1) 1) 0)  -- nothing of the next piece belongs to it
     ∷ (step_of [] 2 (Begun (constant 1 1) 1), Carry (Begun (constant 1 1) 1))
     ∷ [])
-unfolding step_of foundOf item_of decode joinedOf leading run exec other_of decodeLogical formIn hasForm resumedOf joinedOn
+unfolding step_of found_of item_of decode joined_of leading run exec other_of decode_logical form_number is_of_form resumed_of joined_on
 stepped = refl

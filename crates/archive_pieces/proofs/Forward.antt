@@ -17,39 +17,39 @@ use Rattle.reader.specs.declared.Constant.{Constant}
 use Rattle.reader.specs.declared.Span.{Span}
 use Rattle.reader.specs.declared.Found.{Found}
 use Rattle.reader.specs.declared.Found.TheVariants as found
-use Rattle.reader.specs.Found.{span, leading, foundOf, joinedOn, resumedOf}
+use Rattle.reader.specs.Found.{span, leading, found_of, joined_on, resumed_of}
 use Rattle.reader.specs.Cover.{span_of}
 use Rattle.reader.proofs.Finds as finds
 use Rattle.reader.proofs.Cover.{onward}
-use Rattle.reader.proofs.Constants.{leading-take}
+use Rattle.reader.proofs.Constants.{leading_take}
 use Rattle.archive_pieces.specs.declared.Told.{Told}
 use Rattle.archive_pieces.specs.declared.Told.TheVariants.{Joined, Single}
 use Rattle.archive_pieces.specs.declared.Carried.{Carried}
 use Rattle.archive_pieces.specs.declared.Carried.TheVariants.{Nothing, Begun}
 use Rattle.archive_pieces.specs.declared.Step.{Step}
 use Rattle.archive_pieces.specs.declared.Step.TheVariants.{Tell, Carry}
-use Rattle.archive_pieces.specs.Steps.{reachedOf, beginsOf, goesOnOf, step_of}
+use Rattle.archive_pieces.specs.Steps.{reached_of, begins_of, goes_on_of, step_of}
 
 -- ---- the two cases of a step
 
-pub first_step : (ws : List ℕ) (at : ℕ) {r : Step} → r ≡ beginsOf ws at (foundOf ws 0) → r ≡ step_of ws at Nothing
+pub first_step : (ws : List ℕ) (at : ℕ) {r : Step} → r ≡ begins_of ws at (found_of ws 0) → r ≡ step_of ws at Nothing
 unfolding step_of
 first_step ws at e = e
 
-pub next-step : (ws : List ℕ) (at : ℕ) (c : Constant) (began : ℕ) {r : Step} → r ≡ goesOnOf ws c began (resumedOf ws c) → r ≡ step_of ws at (Begun c began)
+pub next_step : (ws : List ℕ) (at : ℕ) (c : Constant) (began : ℕ) {r : Step} → r ≡ goes_on_of ws c began (resumed_of ws c) → r ≡ step_of ws at (Begun c began)
 unfolding step_of
-next-step ws at c began e = e
+next_step ws at c began e = e
 
 -- ---- answers taken apart
 
-pub tell-back : {t u : Told} {n m : ℕ} → Tell t n ≡ Tell u m → (t ≡ u) × (n ≡ m)
-tell-back e = (cc, cc)
+pub tell_back : {t u : Told} {n m : ℕ} → Tell t n ≡ Tell u m → (t ≡ u) × (n ≡ m)
+tell_back e = (cc, cc)
 
 pub carry_back : {k l : Carried} → Carry k ≡ Carry l → k ≡ l
 carry_back e = cc
 
-pub carry-tell : {k : Carried} {t : Told} {n : ℕ} → Carry k ≡ Tell t n → ⊥
-carry-tell e = let z : ◌≡◌ {A = ℕ} 0 1 = cc in omega arith
+pub carry_tell : {k : Carried} {t : Told} {n : ℕ} → Carry k ≡ Tell t n → ⊥
+carry_tell e = let z : ◌≡◌ {A = ℕ} 0 1 = cc in omega arith
 
 some_back : {x y : Span} → some x ≡ some y → x ≡ y
 some_back e = cc
@@ -61,16 +61,16 @@ pub record Spans (ws : List ℕ) (s : Span) : Type 0 where
   pub later : 0 < s.next.0
   pub within : s.next.0 ≤ length ws
 
-pub spans-of : (ws : List ℕ) (s : Span) → span_of (foundOf ws 0) ≡ some s → Spans ws s
-spans-of [] s e = absurd (none-ne-some s (ap span_of (finds.end [] 0 refl) ∙ e))
-spans-of (w ∷ ws) s e =
+pub spans_of : (ws : List ℕ) (s : Span) → span_of (found_of ws 0) ≡ some s → Spans ws s
+spans_of [] s e = absurd (none-ne-some s (ap span_of (finds.end [] 0 refl) ∙ e))
+spans_of (w ∷ ws) s e =
     let o = onward (w ∷ ws) 0 (omega arith) in
     let q : s ≡ span 0 o.next = some_back (sym e ∙ o.is) in
     let n : s.next.0 ≡ o.next = ap (λ (x : Span). x.next.0) q in
     record { stands = q ∙ ap (span 0) (sym n); later = omega (arith, o.later, n); within = omega (arith, o.within, n) }
 
 -- where nothing is found there are no words
-pub empty : (ws : List ℕ) → span_of (foundOf ws 0) ≡ none → length ws ≡ 0
+pub empty : (ws : List ℕ) → span_of (found_of ws 0) ≡ none → length ws ≡ 0
 empty [] e = refl
 empty (w ∷ ws) e = absurd (none-ne-some _ (sym e ∙ (onward (w ∷ ws) 0 (omega arith)).is))
 
@@ -80,25 +80,25 @@ pub data Resumed (ws : List ℕ) : Found → Type 0 where
   goes : {d : Constant} {n : ℕ} → n ≤ length ws → Resumed ws (found.Joined d (span 0 n))
   refused : {r : Refusal} → Resumed ws (found.No r)
 
-joined-on : (ws : List ℕ) (c : Constant) → Resumed ws (joinedOn ws c)
-unfolding joinedOn
-joined-on ws c =
+joined_on_lem : (ws : List ℕ) (c : Constant) → Resumed ws (joined_on ws c)
+unfolding joined_on
+joined_on_lem ws c =
     let l = leading c.sf c.rd ws in
-    let e : length l ≡ length (take (length l) ws) = ap length (leading-take c.sf c.rd ws) in
+    let e : length l ≡ length (take (length l) ws) = ap length (leading_take c.sf c.rd ws) in
     let short : length l ≤ length ws = omega (arith, e ∙ length-take (length l) ws) in
     goes short
 
-pub resumed : (ws : List ℕ) (c : Constant) → Resumed ws (resumedOf ws c)
-unfolding resumedOf
+pub resumed : (ws : List ℕ) (c : Constant) → Resumed ws (resumed_of ws c)
+unfolding resumed_of
 resumed ws c =
     go (ltb 1 c.sf) (ltb 30 c.rd) (ltb (Ones (datasize c.sf)) c.value) (ltb (2 ^ 64 - 1 - c.count) (length ws))
   where
-    go : (a b v m : Bool) → Resumed ws (cond a (found.No Width) (cond b (found.No Register) (cond v (found.No NoField) (cond m (found.No NoRoom) (joinedOn ws c)))))
+    go : (a b v m : Bool) → Resumed ws (cond a (found.No Width) (cond b (found.No Register) (cond v (found.No NoField) (cond m (found.No NoRoom) (joined_on ws c)))))
     go true b v m = refused
     go false true v m = refused
     go false false true m = refused
     go false false false true = refused
-    go false false false false = joined-on ws c
+    go false false false false = joined_on_lem ws c
 
 -- ---- forward
 
@@ -112,31 +112,31 @@ pub record Forward (ws : List ℕ) (k : Carried) (n : ℕ) : Type 0 where
   pub later : k ≡ Nothing → 0 < n
 
 module _ (ws : List ℕ) (at : ℕ) (t : Told) (n : ℕ) where
-  forward-first : (f : Found) → foundOf ws 0 ≡ f → beginsOf ws at f ≡ Tell t n → (0 < n) × (n ≤ length ws)
-  forward-first (found.Joined c s) q e = go (eqb s.next.0 (length ws)) e
+  forward_first : (f : Found) → found_of ws 0 ≡ f → begins_of ws at f ≡ Tell t n → (0 < n) × (n ≤ length ws)
+  forward_first (found.Joined c s) q e = go (eqb s.next.0 (length ws)) e
     where
       go : (b : Bool) → cond b (Carry (Begun c at)) (Tell (Joined c at) s.next.0) ≡ Tell t n → (0 < n) × (n ≤ length ws)
-      go true e = absurd (carry-tell e)
-      go false e = let p = spans-of ws s (ap span_of q) in rw (← (tell-back e).1) (p.later, p.within)
-  forward-first (found.Single i s) q e = let p = spans-of ws s (ap span_of q) in rw (← (tell-back e).1) (p.later, p.within)
-  forward-first found.End q e = absurd (carry-tell e)
-  forward-first (found.No r) q e = absurd (carry-tell e)
+      go true e = absurd (carry_tell e)
+      go false e = let p = spans_of ws s (ap span_of q) in rw (← (tell_back e).1) (p.later, p.within)
+  forward_first (found.Single i s) q e = let p = spans_of ws s (ap span_of q) in rw (← (tell_back e).1) (p.later, p.within)
+  forward_first found.End q e = absurd (carry_tell e)
+  forward_first (found.No r) q e = absurd (carry_tell e)
 
-  forward-next : (c : Constant) (began : ℕ) {f : Found} → Resumed ws f → goesOnOf ws c began f ≡ Tell t n → n ≤ length ws
-  forward-next c began (goes {d} {n = m} h) e = go (eqb m (length ws)) e
+  forward_next : (c : Constant) (began : ℕ) {f : Found} → Resumed ws f → goes_on_of ws c began f ≡ Tell t n → n ≤ length ws
+  forward_next c began (goes {d} {n = m} h) e = go (eqb m (length ws)) e
     where
       go : (b : Bool) → cond b (Carry (Begun d began)) (Tell (Joined d began) m) ≡ Tell t n → n ≤ length ws
-      go true e = absurd (carry-tell e)
-      go false e = rw (← (tell-back e).1) h
-  forward-next c began refused e = rw (← (tell-back e).1) (omega arith)
+      go true e = absurd (carry_tell e)
+      go false e = rw (← (tell_back e).1) h
+  forward_next c began refused e = rw (← (tell_back e).1) (omega arith)
 
   pub forward : (k : Carried) → step_of ws at k ≡ Tell t n → Forward ws k n
   unfolding step_of
-  forward Nothing e = let p = forward-first (foundOf ws 0) refl e in record { within = p.1; later = λ q. p.0 }
-  forward (Begun c began) e = record { within = forward-next c began (resumed ws c) e; later = λ q. absurd (no-nothing q) }
+  forward Nothing e = let p = forward_first (found_of ws 0) refl e in record { within = p.1; later = λ q. p.0 }
+  forward (Begun c began) e = record { within = forward_next c began (resumed ws c) e; later = λ q. absurd (no_nothing q) }
     where
-      no-nothing : Begun c began ≡ Nothing → ⊥
-      no-nothing q = let z : ◌≡◌ {A = ℕ} 0 1 = cc in omega arith
+      no_nothing : Begun c began ≡ Nothing → ⊥
+      no_nothing q = let z : ◌≡◌ {A = ℕ} 0 1 = cc in omega arith
 
 -- so the words that are left, twice, and what is carried get fewer
 pub nearer : (ws : List ℕ) (at n : ℕ) (t : Told) (k : Carried) → step_of ws at k ≡ Tell t n → 2 * (length ws - n) < 2 * length ws + held k

@@ -1,32 +1,32 @@
 -- A turn of the loop that prints a piece, and piece after piece of one. Assumes nothing.
 use Rattle.std.proofs.Common.{◌≡◌, ℕ, ◌+◌, ◌-◌, ◌*◌, ◌%◌, ◌^◌, ◌<◌, ◌≤◌, Bool, true, false, List, [], ◌∷◌, ◌++◌, length, take, drop, sym, refl, ap, ◌∙◌, append_assoc, append-nil, add_assoc, arith, length-append, length-drop, drop-drop}
 use lib.Seq.{sets, length-sets}
-use Rattle.words.proofs.Runs.{sets-append}
-use Rattle.lines.specs.Parts.{bytesOfAll, mostOfAll}
-use Rattle.lines.proofs.Parts.{short-parts}
+use Rattle.words.proofs.Runs.{sets_append}
+use Rattle.lines.specs.Parts.{bytes_of_all, most_of_all}
+use Rattle.lines.proofs.Parts.{short_parts}
 use Rattle.archive_pieces.specs.declared.Told.{Told}
 use Rattle.archive_pieces.specs.declared.Carried.{Carried}
 use Rattle.archive_pieces.specs.declared.Carried.TheVariants.{Nothing, Begun}
 use Rattle.archive_pieces.specs.declared.Step.{Step}
 use Rattle.archive_pieces.specs.declared.Step.TheVariants.{Tell, Carry}
 use Rattle.archive_pieces.specs.Steps.{step_of}
-use Rattle.archive_pieces.specs.Archive.{onBy}
+use Rattle.archive_pieces.specs.Archive.{on_by}
 use Rattle.archive_pieces.proofs.Forward.{held, forward, nearer}
 use Rattle.archive_lines.specs.Lines.{parts_of, line_at}
-use Rattle.archive_lines.proofs.Lines.{line-fits, any-line}
-use Rattle.archives.specs.Printed.{Steps, start, tell, carry, textsOf, Upto, Passed}
+use Rattle.archive_lines.proofs.Lines.{line_fits, any_line}
+use Rattle.archives.specs.Printed.{Steps, start, tell, carry, texts_of, Upto, Passed}
 use Rattle.archives.proofs.Gathered.{to_the_end}
 
-texts-append : (a b : List Told) → textsOf (a ++ b) ≡ textsOf a ++ textsOf b
-texts-append [] b = refl
-texts-append (t ∷ a) b = ap (λ (l : List ℕ). bytesOfAll (parts_of t) ++ l) (texts-append a b) ∙ sym (append_assoc (bytesOfAll (parts_of t)) (textsOf a) (textsOf b))
+texts_append : (a b : List Told) → texts_of (a ++ b) ≡ texts_of a ++ texts_of b
+texts_append [] b = refl
+texts_append (t ∷ a) b = ap (λ (l : List ℕ). bytes_of_all (parts_of t) ++ l) (texts_append a b) ∙ sym (append_assoc (bytes_of_all (parts_of t)) (texts_of a) (texts_of b))
 
 -- no more words are taken than there are
-pub steps-within : {ws : List ℕ} {at₀ i at : ℕ} {k₀ k : Carried} {e : Bool} {ts : List Told} → Steps ws at₀ k₀ e i at k ts → i ≤ length ws
-steps-within start = omega arith
-steps-within {ws} (tell {i} {at} {n} {k} {t} s e) =
-    omega (arith, steps-within s, (forward (drop i ws) at t n k e).within, length-drop i ws)
-steps-within (carry s e) = omega arith
+pub steps_within : {ws : List ℕ} {at₀ i at : ℕ} {k₀ k : Carried} {e : Bool} {ts : List Told} → Steps ws at₀ k₀ e i at k ts → i ≤ length ws
+steps_within start = omega arith
+steps_within {ws} (tell {i} {at} {n} {k} {t} s e) =
+    omega (arith, steps_within s, (forward (drop i ws) at t n k e).within, length-drop i ws)
+steps_within (carry s e) = omega arith
 
 module _ (ws : List ℕ) (at₀ : ℕ) (k₀ : Carried) (o : List ℕ) where
   pub begun : Upto ws at₀ k₀ o false 0 at₀ k₀ 0 o
@@ -43,23 +43,23 @@ module _ (ws : List ℕ) (at₀ : ℕ) (k₀ : Carried) (o : List ℕ) where
       → Upto ws at₀ k₀ o false (i + n) at' Nothing p' o''
   again {i} {at} {p} {n} {at'} {p'} {k} {o'} {o''} {t} u room e q w next =
       let ts = u.told in
-      let v = textsOf (t ∷ []) in
-      let b = bytesOfAll (parts_of t) in
-      let f = w ∙ line-fits o' p (parts_of t) room in
+      let v = texts_of (t ∷ []) in
+      let b = bytes_of_all (parts_of t) in
+      let f = w ∙ line_fits o' p (parts_of t) room in
       let nil : v ≡ b = append-nil b in
-      let p-is : p' ≡ p + length b = ap (λ (x : ℕ × List ℕ). x.0) f in
+      let p_is : p' ≡ p + length b = ap (λ (x : ℕ × List ℕ). x.0) f in
       let run_is : o'' ≡ sets o' p v = ap (λ (x : ℕ × List ℕ). x.1) f ∙ ap (sets o' p) (sym nil) in
-      let short : length b ≤ 320 = omega (arith, short-parts (parts_of t), any-line t) in
-      let texts : textsOf (ts ++ (t ∷ [])) ≡ textsOf ts ++ v = texts-append ts (t ∷ []) in
-      let z : 0 + length (textsOf ts) ≡ p = omega (arith, u.text) in
+      let short : length b ≤ 320 = omega (arith, short_parts (parts_of t), any_line t) in
+      let texts : texts_of (ts ++ (t ∷ [])) ≡ texts_of ts ++ v = texts_append ts (t ∷ []) in
+      let z : 0 + length (texts_of ts) ≡ p = omega (arith, u.text) in
       record {
         told = ts ++ (t ∷ []);
         steps = rw next (tell u.steps (step_is i at k e q));
-        text = p-is ∙ omega (arith, u.text, ap length texts ∙ length-append (textsOf ts) v, ap length nil);
-        holds = run_is ∙ ap (λ (l : List ℕ). sets l p v) u.holds ∙ ap (λ (j : ℕ). sets (sets o 0 (textsOf ts)) j v) (sym z)
-            ∙ sym (sets-append (textsOf ts) v o 0) ∙ ap (sets o 0) (sym texts);
+        text = p_is ∙ omega (arith, u.text, ap length texts ∙ length-append (texts_of ts) v, ap length nil);
+        holds = run_is ∙ ap (λ (l : List ℕ). sets l p v) u.holds ∙ ap (λ (j : ℕ). sets (sets o 0 (texts_of ts)) j v) (sym z)
+            ∙ sym (sets_append (texts_of ts) v o 0) ∙ ap (sets o 0) (sym texts);
         same = ap length run_is ∙ length-sets o' p v ∙ u.same;
-        room = omega (arith, p-is, short, u.same, room);
+        room = omega (arith, p_is, short, u.same, room);
       }
 
   -- the piece is at its end
@@ -67,7 +67,7 @@ module _ (ws : List ℕ) (at₀ : ℕ) (k₀ : Carried) (o : List ℕ) where
       → Upto ws at₀ k₀ o false i at k p o' → x ≡ step_of (take (length ws - i) (drop i ws)) at k → x ≡ Carry l → at' ≡ (at + (length ws - i)) % 2 ^ 64
       → Upto ws at₀ k₀ o true (length ws) at' l p o'
   ended {i} {at} {k = k} u e q next =
-      let n = next ∙ ap (onBy at) (sym (length-drop i ws)) in
+      let n = next ∙ ap (on_by at) (sym (length-drop i ws)) in
       record { told = u.told; steps = rw n (carry u.steps (step_is i at k e q)); text = u.text; holds = u.holds; same = u.same; room = u.room }
 
 -- an item takes no more words than are left, and with each there is less to come
@@ -77,10 +77,10 @@ module _ {ws : List ℕ} {at₀ i n at : ℕ} {k₀ k : Carried} {ts : List Told
   told_is = ap (λ (l : List ℕ). step_of l at k) (sym (to_the_end ws i)) ∙ sym e ∙ q
 
   pub taken : i + n ≤ length ws
-  taken = omega (arith, steps-within s, (forward (drop i ws) at t n k told_is).within, length-drop i ws)
+  taken = omega (arith, steps_within s, (forward (drop i ws) at t n k told_is).within, length-drop i ws)
 
   pub fewer : 2 * (length ws - (i + n)) + 0 < 2 * (length ws - i) + held k
-  fewer = omega (arith, steps-within s, nearer (drop i ws) at n t k told_is, length-drop i ws)
+  fewer = omega (arith, steps_within s, nearer (drop i ws) at n t k told_is, length-drop i ws)
 
 -- ---- run after run of a piece
 
@@ -92,7 +92,7 @@ on {ws} {i = i} {ts = ts} s (tell {i = j} {at} {n} {k} {t} {ts = us} r q) =
     let d : step_of (drop (i + j) ws) at k ≡ Tell t n = ap (λ (l : List ℕ). step_of l at k) (sym (drop-drop j i ws)) ∙ q in
     rw (a, ← append_assoc ts us (t ∷ [])) (tell (on s r) d)
 on {ws} {i = i} {ts = ts} s (carry {i = j} {at} {k} {l} {ts = us} r q) =
-    let a : i + length (drop i ws) ≡ length ws = omega (arith, steps-within s, length-drop i ws) in
+    let a : i + length (drop i ws) ≡ length ws = omega (arith, steps_within s, length-drop i ws) in
     let d : step_of (drop (i + j) ws) at k ≡ Carry l = ap (λ (l : List ℕ). step_of l at k) (sym (drop-drop j i ws)) ∙ q in
     rw (a, drop-drop j i ws) (carry (on s r) d)
 
@@ -100,30 +100,30 @@ pub at-end : {ws : List ℕ} {at₀ i at : ℕ} {k₀ k : Carried} {ts : List To
 at-end (carry s e) = refl
 
 -- each item is a step less to come
-all-fewer : {ws : List ℕ} {at₀ i at : ℕ} {k₀ k : Carried} {ts : List Told} → Steps ws at₀ k₀ false i at k ts
+all_fewer : {ws : List ℕ} {at₀ i at : ℕ} {k₀ k : Carried} {ts : List Told} → Steps ws at₀ k₀ false i at k ts
     → 2 * (length ws - i) + held k + length ts ≤ 2 * length ws + held k₀
-all-fewer start = omega arith
-all-fewer {ws} (tell {i} {at} {n} {k} {t} {ts} s e) =
-    omega (arith, all-fewer s, steps-within s, nearer (drop i ws) at n t k e, (forward (drop i ws) at t n k e).within, length-drop i ws, length-append ts (t ∷ []))
+all_fewer start = omega arith
+all_fewer {ws} (tell {i} {at} {n} {k} {t} {ts} s e) =
+    omega (arith, all_fewer s, steps_within s, nearer (drop i ws) at n t k e, (forward (drop i ws) at t n k e).within, length-drop i ws, length-append ts (t ∷ []))
 
 abbrev pub going : Bool → ℕ
 going true = 0
 going false = 2
 
-pub short-held : (k : Carried) → held k ≤ 1
-short-held Nothing = omega arith
-short-held (Begun c began) = omega arith
+pub short_held : (k : Carried) → held k ≤ 1
+short_held Nothing = omega arith
+short_held (Begun c began) = omega arith
 
-some-told : (ts : List Told) → 0 < length (textsOf ts) → 0 < length ts
-some-told [] h = h
-some-told (t ∷ ts) h = omega arith
+some_told : (ts : List Told) → 0 < length (texts_of ts) → 0 < length ts
+some_told [] h = h
+some_told (t ∷ ts) h = omega arith
 
 pub progress : {ws o o' : List ℕ} {at₀ i at p : ℕ} {k₀ k : Carried} (e : Bool) → Upto ws at₀ k₀ o e i at k p o' → (e ≡ false → length o < p + 320) → 320 ≤ length o
     → 2 * (length ws - i) + held k + going e < 2 * length ws + held k₀ + 2
-progress {k₀ = k₀} {k = k} true u f room = omega (arith, at-end u.steps, short-held k)
+progress {k₀ = k₀} {k = k} true u f room = omega (arith, at-end u.steps, short_held k)
 progress false u f room =
-    let some = some-told u.told (omega (arith, u.text, f refl)) in
-    omega (arith, all-fewer u.steps, some)
+    let some = some_told u.told (omega (arith, u.text, f refl)) in
+    omega (arith, all_fewer u.steps, some)
 
 -- how far the items of a piece were told
 pub record Sofar (ws : List ℕ) (at₀ : ℕ) (k₀ : Carried) (e : Bool) (i at : ℕ) (k : Carried) : Type 0 where
@@ -133,16 +133,16 @@ pub record Sofar (ws : List ℕ) (at₀ : ℕ) (k₀ : Carried) (e : Bool) (i at
 pub nothing_yet : (ws : List ℕ) (at : ℕ) (k : Carried) → Sofar ws at k false 0 at k
 nothing_yet ws at k = record { told = []; steps = start }
 
-pub all-passed : {ws : List ℕ} {at₀ i at : ℕ} {k₀ k : Carried} {e : Bool} → Sofar ws at₀ k₀ e i at k → e ≡ true → Passed ws at₀ k₀ at k
-all-passed s f = let q = rw f at s.steps in record { told = s.told; steps = rw (at-end q) at q }
+pub all_passed : {ws : List ℕ} {at₀ i at : ℕ} {k₀ k : Carried} {e : Bool} → Sofar ws at₀ k₀ e i at k → e ≡ true → Passed ws at₀ k₀ at k
+all_passed s f = let q = rw f at s.steps in record { told = s.told; steps = rw (at-end q) at q }
 
 module _ {ws o o' : List ℕ} {at₀ i at j at' p : ℕ} {k₀ k k' : Carried} {b e : Bool} (s : Sofar ws at₀ k₀ b i at k) (f : b ≡ false)
     (u : Upto (take (length ws - i) (drop i ws)) at k o e j at' k' p o') where
-  pub gone-on : Sofar ws at₀ k₀ e (i + j) at' k'
-  gone-on = record { told = s.told ++ u.told; steps = on (rw f at s.steps) (rw (to_the_end ws i) at u.steps) }
+  pub gone_on_lem : Sofar ws at₀ k₀ e (i + j) at' k'
+  gone_on_lem = record { told = s.told ++ u.told; steps = on (rw f at s.steps) (rw (to_the_end ws i) at u.steps) }
 
-  pub gone-less : (e ≡ false → length o < p + 320) → 320 ≤ length o → 2 * (length ws - (i + j)) + held k' + going e < 2 * (length ws - i) + held k + going b
-  gone-less g room =
+  pub gone_less : (e ≡ false → length o < p + 320) → 320 ≤ length o → 2 * (length ws - (i + j)) + held k' + going e < 2 * (length ws - i) + held k + going b
+  gone_less g room =
       let n : length (take (length ws - i) (drop i ws)) ≡ length ws - i = ap length (to_the_end ws i) ∙ length-drop i ws in
       let l = progress e u g room in
       let two : going b ≡ 2 = ap going f in

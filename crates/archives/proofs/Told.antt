@@ -5,17 +5,17 @@ use Rattle.archive_pieces.specs.declared.Carried.{Carried}
 use Rattle.archive_pieces.specs.Archive.{Pieces, tells, carries}
 use Rattle.archives.specs.Printed.{Steps, start, tell, carry, Passed}
 
-step-by-step : {ws : List ℕ} {at₀ i at : ℕ} {k₀ k : Carried} {ts us : List Told} {ps : List (List ℕ)}
+step_by_step : {ws : List ℕ} {at₀ i at : ℕ} {k₀ k : Carried} {ts us : List Told} {ps : List (List ℕ)}
     → Steps ws at₀ k₀ false i at k ts → Pieces k at (drop i ws ∷ ps) us → Pieces k₀ at₀ (ws ∷ ps) (ts ++ us)
-step-by-step start q = q
-step-by-step {ws} {us = us} (tell {i} {n = n} {t = t} {ts = ts} s e) q =
-    rw (append_assoc ts (t ∷ []) us) (step-by-step s (tells e (rw (← drop-drop n i ws) at q)))
+step_by_step start q = q
+step_by_step {ws} {us = us} (tell {i} {n = n} {t = t} {ts = ts} s e) q =
+    rw (append_assoc ts (t ∷ []) us) (step_by_step s (tells e (rw (← drop-drop n i ws) at q)))
 
-all-steps : {ws : List ℕ} {at₀ i at : ℕ} {k₀ k : Carried} {ts us : List Told} {ps : List (List ℕ)}
+all_steps : {ws : List ℕ} {at₀ i at : ℕ} {k₀ k : Carried} {ts us : List Told} {ps : List (List ℕ)}
     → Steps ws at₀ k₀ true i at k ts → Pieces k at ps us → Pieces k₀ at₀ (ws ∷ ps) (ts ++ us)
-all-steps (carry s e) q = step-by-step s (carries e q)
+all_steps (carry s e) q = step_by_step s (carries e q)
 
 -- a block that was passed, and what is told of those behind it: `pieces_whole` of archive_pieces says that they are the whole's
-pub passed-told : {ws : List ℕ} {at₀ at : ℕ} {k₀ k : Carried} {us : List Told} {ps : List (List ℕ)} (p : Passed ws at₀ k₀ at k)
+pub passed_told : {ws : List ℕ} {at₀ at : ℕ} {k₀ k : Carried} {us : List Told} {ps : List (List ℕ)} (p : Passed ws at₀ k₀ at k)
     → Pieces k at ps us → Pieces k₀ at₀ (ws ∷ ps) (p.told ++ us)
-passed-told p q = all-steps p.steps q
+passed_told p q = all_steps p.steps q

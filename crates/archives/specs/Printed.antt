@@ -1,13 +1,13 @@
 -- The words of bytes, and how far the items of a piece were printed. Assumes nothing.
 use Rattle.std.specs.Prelude.{◌≡◌, ℕ, ◌+◌, ◌*◌, ◌^◌, ◌≤◌, Bool, true, false, List, [], ◌∷◌, ◌++◌, length, drop, slice_index}
 use Rattle.std.proofs.lemmas.List.Edits.{sets}
-use Rattle.lines.specs.Parts.{bytesOfAll}
+use Rattle.lines.specs.Parts.{bytes_of_all}
 use Rattle.archive_pieces.specs.declared.Told.{Told}
 use Rattle.archive_pieces.specs.declared.Carried.{Carried}
 use Rattle.archive_pieces.specs.declared.Carried.TheVariants.{Nothing}
 use Rattle.archive_pieces.specs.declared.Step.TheVariants.{Tell, Carry}
 use Rattle.archive_pieces.specs.Steps.{step_of}
-use Rattle.archive_pieces.specs.Archive.{onBy}
+use Rattle.archive_pieces.specs.Archive.{on_by}
 use Rattle.archive_lines.specs.Lines.{parts_of}
 
 -- the word of the first four bytes, "low byte first"
@@ -27,21 +27,21 @@ words_of (a ∷ b ∷ c ∷ d ∷ bs) = word_of (a ∷ b ∷ c ∷ d ∷ []) ∷
 pub data Steps (ws : List ℕ) (at₀ : ℕ) (k₀ : Carried) : Bool → ℕ → ℕ → Carried → List Told → Type 0 where
   start : Steps ws at₀ k₀ false 0 at₀ k₀ []
   tell : {i at n : ℕ} {k : Carried} {t : Told} {ts : List Told} → Steps ws at₀ k₀ false i at k ts → step_of (drop i ws) at k ≡ Tell t n
-      → Steps ws at₀ k₀ false (i + n) (onBy at n) Nothing (ts ++ (t ∷ []))
+      → Steps ws at₀ k₀ false (i + n) (on_by at n) Nothing (ts ++ (t ∷ []))
   carry : {i at : ℕ} {k l : Carried} {ts : List Told} → Steps ws at₀ k₀ false i at k ts → step_of (drop i ws) at k ≡ Carry l
-      → Steps ws at₀ k₀ true (length ws) (onBy at (length (drop i ws))) l ts
+      → Steps ws at₀ k₀ true (length ws) (on_by at (length (drop i ws))) l ts
 
 -- the lines of items
-abbrev pub textsOf : List Told → List ℕ
-textsOf [] = []
-textsOf (t ∷ ts) = bytesOfAll (parts_of t) ++ textsOf ts
+abbrev pub texts_of : List Told → List ℕ
+texts_of [] = []
+texts_of (t ∷ ts) = bytes_of_all (parts_of t) ++ texts_of ts
 
 -- the lines of the items told stand at the start of a run o, which is then o'
 pub record Upto (ws : List ℕ) (at₀ : ℕ) (k₀ : Carried) (o : List ℕ) (ended : Bool) (i at : ℕ) (k : Carried) (written : ℕ) (o' : List ℕ) : Type 0 where
   pub told : List Told
   pub steps : Steps ws at₀ k₀ ended i at k told
-  pub text : written ≡ length (textsOf told)
-  pub holds : o' ≡ sets o 0 (textsOf told)
+  pub text : written ≡ length (texts_of told)
+  pub holds : o' ≡ sets o 0 (texts_of told)
   pub same : length o' ≡ length o
   pub room : written ≤ length o
 

@@ -1,5 +1,7 @@
 // The archive program: raw words from standard input, low byte first, and a line for each item on standard output. Input comes in blocks of whole
 // words through a fixed buffer, and lines go out through another. What ends it but the end of the input is told on standard error.
+#![tactic(auto)]
+
 ghost use Rattle.std.specs.Prelude.{◌≡◌, ◌+◌, ◌/◌, ◌<◌, ◌≤◌, true, false, length, take};
 ghost use Rattle.archives.specs.Printed.{word_of, words_of, Upto, Passed};
 
@@ -8,7 +10,7 @@ use lines::Answer;
 
 // How far the items of a piece were printed: words of the piece and bytes of the run, the position behind them, what is carried there, and whether
 // that is the piece's end.
-#[derive(Drop)]
+#[derive(Clone, Copy)]
 struct Printed {
     taken: usize,
     written: usize,
@@ -18,7 +20,7 @@ struct Printed {
 }
 
 // Where the next block stands, what is carried into it, and whether there is none.
-#[derive(Drop)]
+#[derive(Clone, Copy)]
 struct Next {
     at: u64,
     carried: Carried,
@@ -26,7 +28,7 @@ struct Next {
 }
 
 // How many bytes were read, and whether a read failed behind them.
-#[derive(Drop)]
+#[derive(Clone, Copy)]
 struct Filled {
     count: usize,
     failed: bool,

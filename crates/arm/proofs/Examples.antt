@@ -7,12 +7,12 @@ use mathlib.Core.Option.{Option, none, some}
 use Prim.Native.Nat.{ℕ, ◌+◌, ◌-◌, ◌^◌}
 use native.Mathlib.Omega.{arith}
 use Rattle.arm.specs.Bits.{Replicate}
-use Rattle.arm.specs.BitMasks.{highestSetBit, len, esize, Legal, wmask}
-use Rattle.arm.specs.LogicalImmediate.{LogicalOp, AND, ORR, EOR, ANDS, Logical, defined, decodeLogical}
+use Rattle.arm.specs.BitMasks.{highest_set_bit, len, esize, Legal, wmask}
+use Rattle.arm.specs.LogicalImmediate.{LogicalOp, AND, ORR, EOR, ANDS, Logical, defined, decode_logical}
 use Rattle.arm.specs.MoveWide.{decode, Regs, exec, run}
-use Rattle.arm.specs.Displacements.{B, Bcond, TBZ, ADR, ADRP, pageADRP, LDR}
-use Rattle.arm.specs.FixedBits.{is_b, isBcond, isCBZ, isTBZ, isADR, isADRP, isLDR}
-use Rattle.arm.specs.Immediates.{VFPExpandImm, byteMasks, ByteMask}
+use Rattle.arm.specs.Displacements.{B, Bcond, TBZ, ADR, ADRP, page_adrp, LDR}
+use Rattle.arm.specs.FixedBits.{is_b, is_bcond, is_cbz, is_tbz, is_adr, is_adrp, is_ldr}
+use Rattle.arm.specs.Immediates.{VFPExpandImm, byte_masks, ByteMask}
 use Rattle.arm.proofs.Worked.{Worked}
 
 -- ---- DecodeBitMasks: the immediates of AND
@@ -36,25 +36,25 @@ pub masks :
     ∷ (wmask 32 0 23 12, 0xFFF00FFF)
     ∷ (wmask 32 0 50 3, 0xE0E0E0E0)
     ∷ [])
-unfolding wmask esize len highestSetBit Replicate
+unfolding wmask esize len highest_set_bit Replicate
 masks = refl
 
 -- what Arm leaves undefined: no length; S all ones, at the longest and the shortest element; N = 1 at width 32
 module _ (w r : ℕ) where
   pub no_length : Legal w 0 62 r → ⊥
-  unfolding len highestSetBit
-  no_length h = omega (arith, h.some-len)
+  unfolding len highest_set_bit
+  no_length h = omega (arith, h.some_len)
 
   pub all_ones : Legal w 1 63 r → ⊥
-  unfolding esize len highestSetBit
+  unfolding esize len highest_set_bit
   all_ones h = omega (arith, h.not-all)
 
-  pub all-ones-of-two : Legal w 0 61 r → ⊥
-  unfolding esize len highestSetBit
-  all-ones-of-two h = omega (arith, h.not-all)
+  pub all_ones_of_two : Legal w 0 61 r → ⊥
+  unfolding esize len highest_set_bit
+  all_ones_of_two h = omega (arith, h.not-all)
 
-  pub wide-at-32 : (s : ℕ) → Legal 32 1 s r → ⊥
-  wide-at-32 s h = omega (arith, h.narrow refl)
+  pub wide_at_32 : (s : ℕ) → Legal 32 1 s r → ⊥
+  wide_at_32 s h = omega (arith, h.narrow refl)
 
 -- ---- AND, ORR, EOR, ANDS, by their fields
 
@@ -63,24 +63,24 @@ logical sf op N immr imms Rn Rd = some (record { sf = sf; op = op; N = N; immr =
 
 pub logicals :
     Worked
-    ((decodeLogical 0x92401C64, logical 1 AND 1 0 7 3 4)  -- and x4, x3, #0xff
-    ∷ (decodeLogical 0x12001C64, logical 0 AND 0 0 7 3 4)  -- and w4, w3, #0xff
-    ∷ (decodeLogical 0x927FF87F, logical 1 AND 1 63 62 3 31)  -- and sp, x3, #0xfffffffffffffffe
-    ∷ (decodeLogical 0x1203C822, logical 0 AND 0 3 50 1 2)  -- and w2, w1, #0xe0e0e0e0
-    ∷ (decodeLogical 0xB201F3C0, logical 1 ORR 0 1 60 30 0)  -- orr x0, x30, #0xaaaaaaaaaaaaaaaa
-    ∷ (decodeLogical 0x320107E7, logical 0 ORR 0 1 1 31 7)  -- orr w7, wzr, #0x80000001
-    ∷ (decodeLogical 0xD2410429, logical 1 EOR 1 1 1 1 9)  -- eor x9, x1, #0x8000000000000001
-    ∷ (decodeLogical 0x52007820, logical 0 EOR 0 0 30 1 0)  -- eor w0, w1, #0x7fffffff
-    ∷ (decodeLogical 0xF20C9C5F, logical 1 ANDS 0 12 39 2 31)  -- ands xzr, x2, #0xff00ff00ff00ff0
-    ∷ (decodeLogical 0x720C5CC5, logical 0 ANDS 0 12 23 6 5)  -- ands w5, w6, #0xfff00fff
-    ∷ (decodeLogical 0x12401C64, none)  -- N = 1 at 32 bits
-    ∷ (decodeLogical 0x9240FC64, none)  -- S all ones, of 64 bits
-    ∷ (decodeLogical 0x9200F464, none)  -- and of 2
-    ∷ (decodeLogical 0x9200F864, none)  -- no length
-    ∷ (decodeLogical 0xD28000A0, none)  -- movz x0, #5
-    ∷ (decodeLogical 0xAA020020, none)  -- orr x0, x1, x2
+    ((decode_logical 0x92401C64, logical 1 AND 1 0 7 3 4)  -- and x4, x3, #0xff
+    ∷ (decode_logical 0x12001C64, logical 0 AND 0 0 7 3 4)  -- and w4, w3, #0xff
+    ∷ (decode_logical 0x927FF87F, logical 1 AND 1 63 62 3 31)  -- and sp, x3, #0xfffffffffffffffe
+    ∷ (decode_logical 0x1203C822, logical 0 AND 0 3 50 1 2)  -- and w2, w1, #0xe0e0e0e0
+    ∷ (decode_logical 0xB201F3C0, logical 1 ORR 0 1 60 30 0)  -- orr x0, x30, #0xaaaaaaaaaaaaaaaa
+    ∷ (decode_logical 0x320107E7, logical 0 ORR 0 1 1 31 7)  -- orr w7, wzr, #0x80000001
+    ∷ (decode_logical 0xD2410429, logical 1 EOR 1 1 1 1 9)  -- eor x9, x1, #0x8000000000000001
+    ∷ (decode_logical 0x52007820, logical 0 EOR 0 0 30 1 0)  -- eor w0, w1, #0x7fffffff
+    ∷ (decode_logical 0xF20C9C5F, logical 1 ANDS 0 12 39 2 31)  -- ands xzr, x2, #0xff00ff00ff00ff0
+    ∷ (decode_logical 0x720C5CC5, logical 0 ANDS 0 12 23 6 5)  -- ands w5, w6, #0xfff00fff
+    ∷ (decode_logical 0x12401C64, none)  -- N = 1 at 32 bits
+    ∷ (decode_logical 0x9240FC64, none)  -- S all ones, of 64 bits
+    ∷ (decode_logical 0x9200F464, none)  -- and of 2
+    ∷ (decode_logical 0x9200F864, none)  -- no length
+    ∷ (decode_logical 0xD28000A0, none)  -- movz x0, #5
+    ∷ (decode_logical 0xAA020020, none)  -- orr x0, x1, x2
     ∷ [])
-unfolding decodeLogical defined esize len highestSetBit
+unfolding decode_logical defined esize len highest_set_bit
 logicals = refl
 
 -- ---- MOVN, MOVZ, MOVK, from registers that hold 1111222233334444 and their own number
@@ -135,11 +135,11 @@ pub displacements :
     ∷ (ADR 0x707FFFE2, 1048575)  -- adr x2, .+1048575
     ∷ (ADRP 0xB0000000, 4096)  -- adrp x0, the next page
     ∷ (ADRP 0x90800000, 2 ^ 64 - 4294967296)  -- the least page
-    ∷ (pageADRP 0x1FFC 0xD0000000, 0x3000)  -- at 1FFC objdump reads adrp x0, 0x3000; and so below
-    ∷ (pageADRP 0x1FF8 0xF0FFFFE1, 0)
-    ∷ (pageADRP 0x1000 0xF07FFFE2, 0x100000000)
-    ∷ (pageADRP 0x200000FFC 0x90800000, 0x100000000)
-    ∷ (pageADRP 0xFFFFFFFFFFFFFFFC 0xB0000000, 0)  -- over the end of the addresses
+    ∷ (page_adrp 0x1FFC 0xD0000000, 0x3000)  -- at 1FFC objdump reads adrp x0, 0x3000; and so below
+    ∷ (page_adrp 0x1FF8 0xF0FFFFE1, 0)
+    ∷ (page_adrp 0x1000 0xF07FFFE2, 0x100000000)
+    ∷ (page_adrp 0x200000FFC 0x90800000, 0x100000000)
+    ∷ (page_adrp 0xFFFFFFFFFFFFFFFC 0xB0000000, 0)  -- over the end of the addresses
     ∷ (LDR 0x58000040, 8)  -- ldr x0, .+8
     ∷ (LDR 0x18800005, 2 ^ 64 - 1048576)  -- ldr w5, .-1048576
     ∷ [])
@@ -156,63 +156,63 @@ pub fixed :
     ∷ (is_b 0x04000000, false)
     ∷ (is_b 0x1C000000, false)
     ∷ (is_b 0x10000000, false)
-    ∷ (isBcond 0x54000040, true)  -- b.eq.+8
-    ∷ (isBcond 0x54FFFFCF, true)  -- b.nv.-8
-    ∷ (isBcond 0x54000051, false)  -- bc.ne.+8
-    ∷ (isBcond 0xD4000000, false)  -- bits 31 to 24 and bit 4
-    ∷ (isBcond 0x14000000, false)
-    ∷ (isBcond 0x74000000, false)
-    ∷ (isBcond 0x44000000, false)
-    ∷ (isBcond 0x5C000000, false)
-    ∷ (isBcond 0x50000000, false)
-    ∷ (isBcond 0x56000000, false)
-    ∷ (isBcond 0x55000000, false)
-    ∷ (isBcond 0x54000010, false)
-    ∷ (isCBZ 0x34000020, true)  -- cbz w0, .+4
-    ∷ (isCBZ 0xB5FFFFFE, true)  -- cbnz x30, .-4
-    ∷ (isCBZ 0x74000000, false)  -- bits 30 to 25
-    ∷ (isCBZ 0x14000000, false)
-    ∷ (isCBZ 0x24000000, false)
-    ∷ (isCBZ 0x3C000000, false)
-    ∷ (isCBZ 0x30000000, false)
-    ∷ (isCBZ 0x36000000, false)
-    ∷ (isTBZ 0x361BFFE1, true)  -- tbz w1, #3, .+32764
-    ∷ (isTBZ 0xB71C0001, true)  -- tbnz x1, #35, .-32768
-    ∷ (isTBZ 0x76000000, false)  -- bits 30 to 25
-    ∷ (isTBZ 0x16000000, false)
-    ∷ (isTBZ 0x26000000, false)
-    ∷ (isTBZ 0x3E000000, false)
-    ∷ (isTBZ 0x32000000, false)
-    ∷ (isTBZ 0x34000000, false)
-    ∷ (isADR 0x30000020, true)  -- adr x0, .+5
-    ∷ (isADR 0x70FFFFFF, true)  -- adr xzr, .-1
-    ∷ (isADR 0x90000000, false)  -- bit 31, bits 28 to 24
-    ∷ (isADR 0x00000000, false)
-    ∷ (isADR 0x18000000, false)
-    ∷ (isADR 0x14000000, false)
-    ∷ (isADR 0x12000000, false)
-    ∷ (isADR 0x11000000, false)
-    ∷ (isADRP 0xB0000007, true)  -- adrp x7, the next page
-    ∷ (isADRP 0xF0FFFFE0, true)  -- adrp x0, the page before
-    ∷ (isADRP 0x10000000, false)  -- bit 31, bits 28 to 24
-    ∷ (isADRP 0x80000000, false)
-    ∷ (isADRP 0x98000000, false)
-    ∷ (isADRP 0x94000000, false)
-    ∷ (isADRP 0x92000000, false)
-    ∷ (isADRP 0x91000000, false)
-    ∷ (isLDR 0x18000045, true)  -- ldr w5, .+8
-    ∷ (isLDR 0x58000040, true)  -- ldr x0, .+8
-    ∷ (isLDR 0x98FFFFC2, true)  -- ldrsw x2, .-8
-    ∷ (isLDR 0xD800009F, true)  -- prfm #31, .+16
-    ∷ (isLDR 0x1C000043, true)  -- ldr s3, .+8
-    ∷ (isLDR 0x5CFFFFC4, true)  -- ldr d4, .-8
-    ∷ (isLDR 0x9C00009F, true)  -- ldr q31, .+16
-    ∷ (isLDR 0xDC000000, false)  -- unallocated
-    ∷ (isLDR 0x78000000, false)  -- bits 29 to 27, bits 25 and 24
-    ∷ (isLDR 0x48000000, false)
-    ∷ (isLDR 0x50000000, false)
-    ∷ (isLDR 0x5A000000, false)
-    ∷ (isLDR 0x59000000, false)
+    ∷ (is_bcond 0x54000040, true)  -- b.eq.+8
+    ∷ (is_bcond 0x54FFFFCF, true)  -- b.nv.-8
+    ∷ (is_bcond 0x54000051, false)  -- bc.ne.+8
+    ∷ (is_bcond 0xD4000000, false)  -- bits 31 to 24 and bit 4
+    ∷ (is_bcond 0x14000000, false)
+    ∷ (is_bcond 0x74000000, false)
+    ∷ (is_bcond 0x44000000, false)
+    ∷ (is_bcond 0x5C000000, false)
+    ∷ (is_bcond 0x50000000, false)
+    ∷ (is_bcond 0x56000000, false)
+    ∷ (is_bcond 0x55000000, false)
+    ∷ (is_bcond 0x54000010, false)
+    ∷ (is_cbz 0x34000020, true)  -- cbz w0, .+4
+    ∷ (is_cbz 0xB5FFFFFE, true)  -- cbnz x30, .-4
+    ∷ (is_cbz 0x74000000, false)  -- bits 30 to 25
+    ∷ (is_cbz 0x14000000, false)
+    ∷ (is_cbz 0x24000000, false)
+    ∷ (is_cbz 0x3C000000, false)
+    ∷ (is_cbz 0x30000000, false)
+    ∷ (is_cbz 0x36000000, false)
+    ∷ (is_tbz 0x361BFFE1, true)  -- tbz w1, #3, .+32764
+    ∷ (is_tbz 0xB71C0001, true)  -- tbnz x1, #35, .-32768
+    ∷ (is_tbz 0x76000000, false)  -- bits 30 to 25
+    ∷ (is_tbz 0x16000000, false)
+    ∷ (is_tbz 0x26000000, false)
+    ∷ (is_tbz 0x3E000000, false)
+    ∷ (is_tbz 0x32000000, false)
+    ∷ (is_tbz 0x34000000, false)
+    ∷ (is_adr 0x30000020, true)  -- adr x0, .+5
+    ∷ (is_adr 0x70FFFFFF, true)  -- adr xzr, .-1
+    ∷ (is_adr 0x90000000, false)  -- bit 31, bits 28 to 24
+    ∷ (is_adr 0x00000000, false)
+    ∷ (is_adr 0x18000000, false)
+    ∷ (is_adr 0x14000000, false)
+    ∷ (is_adr 0x12000000, false)
+    ∷ (is_adr 0x11000000, false)
+    ∷ (is_adrp 0xB0000007, true)  -- adrp x7, the next page
+    ∷ (is_adrp 0xF0FFFFE0, true)  -- adrp x0, the page before
+    ∷ (is_adrp 0x10000000, false)  -- bit 31, bits 28 to 24
+    ∷ (is_adrp 0x80000000, false)
+    ∷ (is_adrp 0x98000000, false)
+    ∷ (is_adrp 0x94000000, false)
+    ∷ (is_adrp 0x92000000, false)
+    ∷ (is_adrp 0x91000000, false)
+    ∷ (is_ldr 0x18000045, true)  -- ldr w5, .+8
+    ∷ (is_ldr 0x58000040, true)  -- ldr x0, .+8
+    ∷ (is_ldr 0x98FFFFC2, true)  -- ldrsw x2, .-8
+    ∷ (is_ldr 0xD800009F, true)  -- prfm #31, .+16
+    ∷ (is_ldr 0x1C000043, true)  -- ldr s3, .+8
+    ∷ (is_ldr 0x5CFFFFC4, true)  -- ldr d4, .-8
+    ∷ (is_ldr 0x9C00009F, true)  -- ldr q31, .+16
+    ∷ (is_ldr 0xDC000000, false)  -- unallocated
+    ∷ (is_ldr 0x78000000, false)  -- bits 29 to 27, bits 25 and 24
+    ∷ (is_ldr 0x48000000, false)
+    ∷ (is_ldr 0x50000000, false)
+    ∷ (is_ldr 0x5A000000, false)
+    ∷ (is_ldr 0x59000000, false)
     ∷ [])
 fixed = refl
 
@@ -248,5 +248,5 @@ pub bytes :
     ∷ (ByteMask 0b00001111, 0x00000000FFFFFFFF)
     ∷ (ByteMask 255, 0xFFFFFFFFFFFFFFFF)
     ∷ [])
-unfolding byteMasks Replicate
+unfolding byte_masks Replicate
 bytes = refl

@@ -9,8 +9,8 @@ use lib.Count.{count_trailing_zeros, count_leading_zeros, leading_unique}
 use Rattle.arm.specs.Bits.{Ones, ROR, Replicate}
 use Rattle.arm.specs.BitMasks.{IsWidth}
 use Rattle.arm.specs.Elements.{runs, IsRun}
-use Rattle.arm.proofs.Lengths.{width-le, whole, once}
-use Rattle.arm.proofs.Trailing.{Odd, zeros-at}
+use Rattle.arm.proofs.Lengths.{width_le, whole, once}
+use Rattle.arm.proofs.Trailing.{Odd, zeros_at}
 
 -- ---- copies
 
@@ -52,17 +52,17 @@ wrapped c t r =
 
 -- ---- reading a run off its copies
 
-odd-mul : {a b : ℕ} → Odd a → Odd b → Odd (a * b)
-odd-mul ha hb = record { half = ha.half * hb.half * 2 + ha.half + hb.half; is = rw (ha.is, hb.is) (omega arith) }
+odd_mul : {a b : ℕ} → Odd a → Odd b → Odd (a * b)
+odd_mul ha hb = record { half = ha.half * hb.half * 2 + ha.half + hb.half; is = rw (ha.is, hb.is) (omega arith) }
 
 -- a number with k more than 0 places of zeros, and 1 below
-odd-above : (a k : ℕ) → 1 ≤ k → Odd (1 + a * 2 ^ k)
-odd-above a zero h = absurd (omega arith)
-odd-above a (suc k) h = record { half = a * 2 ^ k; is = rw pow-suc (omega arith) }
+odd_above : (a k : ℕ) → 1 ≤ k → Odd (1 + a * 2 ^ k)
+odd_above a zero h = absurd (omega arith)
+odd_above a (suc k) h = record { half = a * 2 ^ k; is = rw pow-suc (omega arith) }
 
-pub odd-ones : (k : ℕ) → 1 ≤ k → Odd (Ones k)
-odd-ones zero h = absurd (omega arith)
-odd-ones (suc k) h = record { half = Ones k; is = omega (arith, pow-suc 2 k, one_more k) }
+pub odd_ones : (k : ℕ) → 1 ≤ k → Odd (Ones k)
+odd_ones zero h = absurd (omega arith)
+odd_ones (suc k) h = record { half = Ones k; is = omega (arith, pow-suc 2 k, one_more k) }
 
 -- the place of the lowest run and its length, in an element c zeros longer
 module _ (c l p m : ℕ) (hc : 1 ≤ c) (hl : 1 ≤ l) where
@@ -74,21 +74,21 @@ module _ (c l p m : ℕ) (hc : 1 ≤ c) (hl : 1 ≤ l) where
   unfolding Replicate
   above = rw pow-add (omega arith)
 
-  odd-copies : Odd (Replicate (c + l) 1 (suc m))
+  odd_copies : Odd (Replicate (c + l) 1 (suc m))
   unfolding Replicate
-  odd-copies = odd-above (Replicate (c + l) 1 m) (c + l) (omega arith)
+  odd_copies = odd_above (Replicate (c + l) 1 m) (c + l) (omega arith)
 
   pub read-place : p < 64 → count_trailing_zeros 64 (runs (c + l) (suc m) p l) ≡ p
-  read-place h = rw x-is (zeros-at 64 p h (odd-mul (odd-ones l hl) odd-copies))
+  read-place h = rw x-is (zeros_at 64 p h (odd_mul (odd_ones l hl) odd_copies))
 
-  pub read-shift : runs (c + l) (suc m) p l / 2 ^ p ≡ Ones l * Replicate (c + l) 1 (suc m)
-  read-shift = rw x-is (shl-shr _ p)
+  pub read_shift : runs (c + l) (suc m) p l / 2 ^ p ≡ Ones l * Replicate (c + l) 1 (suc m)
+  read_shift = rw x-is (shl-shr _ p)
 
   pub read_length : l < 64 → count_trailing_zeros 64 (Ones l * Replicate (c + l) 1 (suc m) + 1) ≡ l
   read_length h =
       let next : Ones l * Replicate (c + l) 1 (suc m) + 1 ≡ (1 + Ones l * Replicate (c + l) 1 m * 2 ^ c) * 2 ^ l =
       omega (arith, above, one_more l) in
-      rw next (zeros-at 64 l h (odd-above (Ones l * Replicate (c + l) 1 m) c hc))
+      rw next (zeros_at 64 l h (odd_above (Ones l * Replicate (c + l) 1 m) c hc))
 
 -- ---- copies of any element a
 
@@ -97,13 +97,13 @@ grow : (e m : ℕ) → Replicate e 1 (suc m) ≡ Replicate e 1 m + 2 ^ (e * m)
 unfolding Replicate
 grow e m = omega (arith, all_ones e m)
 
-copies-lt : (e m a : ℕ) → a < 2 ^ e → a * Replicate e 1 m < 2 ^ (e * m)
-copies-lt e m a h = omega (arith, mul-le-mul_right (Replicate e 1 m) h, all_ones e m)
+copies_lt : (e m a : ℕ) → a < 2 ^ e → a * Replicate e 1 m < 2 ^ (e * m)
+copies_lt e m a h = omega (arith, mul-le-mul_right (Replicate e 1 m) h, all_ones e m)
 
 -- turned by an element, copies are as they were
-turned-copies : (e m a : ℕ) → a < 2 ^ e → ROR (e * suc m) (a * Replicate e 1 (suc m)) e ≡ a * Replicate e 1 (suc m)
+turned_copies : (e m a : ℕ) → a < 2 ^ e → ROR (e * suc m) (a * Replicate e 1 (suc m)) e ≡ a * Replicate e 1 (suc m)
 unfolding Replicate
-turned-copies e m a h =
+turned_copies e m a h =
     let g = Replicate e 1 m in
     let is : a * Replicate e 1 (suc m) ≡ a * g * 2 ^ e + a = omega arith in
     let rest : e * suc m - e ≡ e * m = omega (arith, mul-suc e m) in
@@ -111,7 +111,7 @@ turned-copies e m a h =
     rw (is, high (a * g) e h, low (a * g) e h, rest) (omega (arith, all))
 
 pub turned_same : (w e m a x : ℕ) → e * suc m ≡ w → a < 2 ^ e → x ≡ a * Replicate e 1 (suc m) → ROR w x e ≡ x
-turned_same w e m a x all h is = rw (is, ← all) (turned-copies e m a h)
+turned_same w e m a x all h is = rw (is, ← all) (turned_copies e m a h)
 
 -- and what is as it was is copies
 pub fixed : (w e x : ℕ) → e ≤ w → x < 2 ^ w → ROR w x e ≡ x → x / 2 ^ e ≡ x % 2 ^ (w - e)
@@ -138,15 +138,15 @@ periodic e (suc m) y small same =
 
 -- ---- the zeros above the top run
 
-read-top : (e m p l : ℕ) → 1 ≤ l → p + l ≤ e → e - (p + l) ≡ count_leading_zeros (e * suc m) (runs e (suc m) p l)
-read-top e m p zero hl h = absurd (omega arith)
-read-top e m p (suc l) hl h =
+read_top : (e m p l : ℕ) → 1 ≤ l → p + l ≤ e → e - (p + l) ≡ count_leading_zeros (e * suc m) (runs e (suc m) p l)
+read_top e m p zero hl h = absurd (omega arith)
+read_top e m p (suc l) hl h =
     let a = Ones (suc l) * 2 ^ p in
     let q = 2 ^ (e * m) in
     let g = Replicate e 1 m in
     let up : a < 2 ^ (suc l + p) = shl_lt (suc l) p (ones_lt (suc l)) in
     let is : a * Replicate e 1 (suc m) ≡ a * g + a * q = rw (grow e m) (omega arith) in
-    let low = copies-lt e m a (lt_of_lt_of_le up (pow_mono (omega arith))) in
+    let low = copies_lt e m a (lt_of_lt_of_le up (pow_mono (omega arith))) in
     let pow : 2 ^ (suc l + p + e * m) ≡ 2 ^ (suc l + p) * q = pow-add 2 (suc l + p) (e * m) in
     let ones : 2 ^ (suc l + p) ≤ 2 * a = omega (arith, pow-add 2 (suc l) p, mul-le-mul_right (2 ^ p) (half l)) in
     leading_unique (e * suc m) (runs e (suc m) p (suc l)) (e - (p + suc l)) (suc l + p + e * m)
@@ -158,20 +158,20 @@ read-top e m p (suc l) hl h =
     half l = omega (arith, pow-suc 2 l, pow_pos l)
 
 -- ---- a run that is there is read
-pub read-run : {w x e p l : ℕ} → IsWidth w → IsRun w x e p l
+pub read_run : {w x e p l : ℕ} → IsWidth w → IsRun w x e p l
     → (count_trailing_zeros 64 x ≡ p) × (count_trailing_zeros 64 (x / 2 ^ p + 1) ≡ l) × (p + l + count_leading_zeros w x ≡ e)
-read-run {w} {x} {e} {p} {l} ww h =
+read_run {w} {x} {e} {p} {l} ww h =
     let k = once h.element in
     go (e - l) k.0 (sub-add_cancel (omega arith)) (sym k.1)
   where
     go : (c m : ℕ) → c + l ≡ e → suc m ≡ w / e → (count_trailing_zeros 64 x ≡ p) × (count_trailing_zeros 64 (x / 2 ^ p + 1) ≡ l) × (p + l + count_leading_zeros w x ≡ e)
     go c m hc hm =
-        let small : e ≤ 64 = omega (arith, width-le ww, h.element.fits) in
+        let small : e ≤ 64 = omega (arith, width_le ww, h.element.fits) in
         let all : w ≡ (c + l) * suc m = rw (hc, hm) (sym (whole ww h.element)) in
         let is : x ≡ runs (c + l) (suc m) p l = rw (hc, hm) h.value in
         let hc1 : 1 ≤ c = omega arith in
-        let y : x / 2 ^ p ≡ Ones l * Replicate (c + l) 1 (suc m) = rw is (read-shift c l p m hc1 h.some) in
-        let top : c + l - (p + l) ≡ count_leading_zeros w x = rw (is, all) (read-top (c + l) m p l h.some (rw hc h.within)) in (
+        let y : x / 2 ^ p ≡ Ones l * Replicate (c + l) 1 (suc m) = rw is (read_shift c l p m hc1 h.some) in
+        let top : c + l - (p + l) ≡ count_leading_zeros w x = rw (is, all) (read_top (c + l) m p l h.some (rw hc h.within)) in (
           rw is (read-place c l p m hc1 h.some (omega arith)),
           rw y (read_length c l p m hc1 h.some (omega arith)),
           omega arith,
@@ -179,8 +179,8 @@ read-run {w} {x} {e} {p} {l} ww h =
 
 -- ---- copies of an element with a turned run
 
-pub plain-copies : (e l r m : ℕ) → l ≤ r → Replicate e (ROR e (Ones l) r) m ≡ runs e m (e - r) l
-plain-copies e l r m h = rw (copies e (ROR e (Ones l) r) m, plain e l r h)
+pub plain_copies : (e l r m : ℕ) → l ≤ r → Replicate e (ROR e (Ones l) r) m ≡ runs e m (e - r) l
+plain_copies e l r m h = rw (copies e (ROR e (Ones l) r) m, plain e l r h)
 
 wrapped_sum : (c t r m : ℕ) → Replicate (c + t + r) (ROR (c + t + r) (Ones (t + r)) r) m + runs (c + t + r) m t c ≡ Ones ((c + t + r) * m)
 wrapped_sum c t r m =
@@ -189,31 +189,31 @@ wrapped_sum c t r m =
     let one = ap (λ (k : ℕ). k * Replicate e 1 m) (one_more e) in
     rw (copies e (ROR e (Ones (t + r)) r) m) (omega (arith, sum, one, all_ones e m, one_more (e * m)))
 
-pub wrapped-copies : (e l r m : ℕ) → r ≤ l → l ≤ e → Replicate e (ROR e (Ones l) r) m + runs e m (l - r) (e - l) ≡ Ones (e * m)
-wrapped-copies e l r m h k =
-    let l-is : l - r + r ≡ l = sub-add_cancel h in
-    let e-is : e - l + (l - r) + r ≡ e = omega arith in
-    rw (l-is, e-is) at (wrapped_sum (e - l) (l - r) r m)
+pub wrapped_copies : (e l r m : ℕ) → r ≤ l → l ≤ e → Replicate e (ROR e (Ones l) r) m + runs e m (l - r) (e - l) ≡ Ones (e * m)
+wrapped_copies e l r m h k =
+    let l_is : l - r + r ≡ l = sub-add_cancel h in
+    let e_is : e - l + (l - r) + r ≡ e = omega arith in
+    rw (l_is, e_is) at (wrapped_sum (e - l) (l - r) r m)
 
 -- ---- the size and the lowest bit of a run
 
 pub bound : (w e m p l : ℕ) → e * m ≡ w → p + l ≤ e → runs e m p l ≤ Ones w
-bound w e m p l hw h = le_ones w (rw hw at (copies-lt e m (Ones l * 2 ^ p) (lt_of_lt_of_le (shl_lt l p (ones_lt l)) (pow_mono (omega arith)))))
+bound w e m p l hw h = le_ones w (rw hw at (copies_lt e m (Ones l * 2 ^ p) (lt_of_lt_of_le (shl_lt l p (ones_lt l)) (pow_mono (omega arith)))))
 
-pub run-le : {w x e p l : ℕ} → IsWidth w → IsRun w x e p l → x ≤ Ones w
-run-le {w} {x} {e} {p} {l} ww h = rw h.value (bound w e (w / e) p l (whole ww h.element) h.within)
+pub run_le : {w x e p l : ℕ} → IsWidth w → IsRun w x e p l → x ≤ Ones w
+run_le {w} {x} {e} {p} {l} ww h = rw h.value (bound w e (w / e) p l (whole ww h.element) h.within)
 
-pub run-even : {w x e p l : ℕ} → IsRun w x e p l → x % 2 ≡ 0
-run-even {p = zero} h = absurd (omega arith)
-run-even {w} {x} {e} {p = suc p} {l} h =
+pub run_even : {w x e p l : ℕ} → IsRun w x e p l → x % 2 ≡ 0
+run_even {p = zero} h = absurd (omega arith)
+run_even {w} {x} {e} {p = suc p} {l} h =
     let is : x ≡ Ones l * 2 ^ p * Replicate e 1 (w / e) * 2 = h.value ∙ rw pow-suc (omega arith) in
     omega arith
 
 -- a value is a run in one way only
-pub run-unique : {w x e p l e' p' l' : ℕ} → IsWidth w → IsRun w x e p l → IsRun w x e' p' l' → (e ≡ e') × (p ≡ p') × (l ≡ l')
-run-unique {w} {x} {e} {p} {l} {e'} {p'} {l'} ww h h' =
-    let a = read-run ww h in
-    let a' = read-run ww h' in
-    let p-is : p ≡ p' = sym a.0 ∙ a'.0 in
-    let l-is : l ≡ l' = sym a.1 ∙ rw p-is a'.1 in
-    (sym a.2 ∙ rw (p-is, l-is) a'.2, p-is, l-is)
+pub run_unique : {w x e p l e' p' l' : ℕ} → IsWidth w → IsRun w x e p l → IsRun w x e' p' l' → (e ≡ e') × (p ≡ p') × (l ≡ l')
+run_unique {w} {x} {e} {p} {l} {e'} {p'} {l'} ww h h' =
+    let a = read_run ww h in
+    let a' = read_run ww h' in
+    let p_is : p ≡ p' = sym a.0 ∙ a'.0 in
+    let l_is : l ≡ l' = sym a.1 ∙ rw p_is a'.1 in
+    (sym a.2 ∙ rw (p_is, l_is) a'.2, p_is, l_is)

@@ -27,8 +27,8 @@ module _ (t v : ℕ) where
   pub shr_zero : v / 2 ^ t ≡ 0 → v < 2 ^ t
   shr_zero e = omega (arith, (div-lt_iff_lt-mul {k = 2 ^ t} {x = v} {y = 1} (pow_pos t)).0 (omega arith))
 
-  pub shr-more : (v / 2 ^ t ≡ 0 → ⊥) → 2 ^ t ≤ v
-  shr-more n = omega (arith, (le-div_iff_mul-le {k = 2 ^ t} {x = 1} {y = v} (pow_pos t)).0 (omega arith))
+  pub shr_more : (v / 2 ^ t ≡ 0 → ⊥) → 2 ^ t ≤ v
+  shr_more n = omega (arith, (le-div_iff_mul-le {k = 2 ^ t} {x = 1} {y = v} (pow_pos t)).0 (omega arith))
 
 -- ---- of a signed number's low bits
 
@@ -58,7 +58,7 @@ module _ (t v : ℕ) where
   pub high_half : t ≤ 64 → v < 2 ^ t → (v / 2 ^ (t - 1) ≡ 0 → ⊥) → (2 ^ 64 - 1) - (2 ^ t - 1 - v) ≡ SignExtend t v
   high_half h k z =
       let top : 2 ^ t ≤ 2 ^ 64 = pow_mono {j = 64} h in
-      rw (le-ltb v (2 ^ (t - 1)) (shr-more (t - 1) v z)) (omega arith)
+      rw (le-ltb v (2 ^ (t - 1)) (shr_more (t - 1) v z)) (omega arith)
 
 -- only 0 extends to 0
 pub extended : (t v : ℕ) → 0 < v → SignExtend t v ≡ 0 → ⊥

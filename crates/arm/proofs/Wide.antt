@@ -23,11 +23,11 @@ spelled sf opc hw imm16 Rd = base sf opc + hw * 2 ^ 21 + imm16 * 2 ^ 5 + Rd
 
 -- the sizes of the fields; at sf = 0 the halfword's number is 0 or 1, and register 31 is left out
 pub record Sizes (sf opc hw imm16 Rd : ℕ) : Type 0 where
-  pub sf-is : sf < 2
-  pub opc-is : opc < 4
-  pub hw-is : hw < 2 + 2 * sf
-  pub imm16-is : imm16 < 2 ^ 16
-  pub Rd-is : Rd < 31
+  pub sf_is : sf < 2
+  pub opc_is : opc < 4
+  pub hw_is : hw < 2 + 2 * sf
+  pub imm16_is : imm16 < 2 ^ 16
+  pub Rd_is : Rd < 31
 
 module _ (sf opc hw imm16 Rd : ℕ) (l : Sizes sf opc hw imm16 Rd) where
   pub decoded : {op : Op} → op_of opc ≡ some op → decode (spelled sf opc hw imm16 Rd) ≡ some (record { sf = sf; op = op; hw = hw; imm16 = imm16; Rd = Rd })
@@ -41,7 +41,7 @@ module _ (sf opc hw imm16 Rd : ℕ) (l : Sizes sf opc hw imm16 Rd) where
       let hw-at : bits 22 21 w ≡ hw = omega arith in
       let imm16-at : bits 20 5 w ≡ imm16 = omega arith in
       let Rd-at : bits 4 0 w ≡ Rd = omega arith in
-      rw (fixed, sf-at, opc-at, hw-at, imm16-at, Rd-at, e, allocated sf l.hw-is)
+      rw (fixed, sf-at, opc-at, hw-at, imm16-at, Rd-at, e, allocated sf l.hw_is)
     where
       allocated : (s : ℕ) → hw < 2 + 2 * s → not (eqb s 0 && leb 2 hw) ≡ true
       allocated zero m = rw (lt-leb 2 hw m)
@@ -52,14 +52,14 @@ abbrev pub left : ℕ → Op → ℕ → ℕ → ℕ → Regs → ℕ
 left sf op hw imm16 Rd R = result op (datasize sf) (16 * hw) imm16 (R Rd % 2 ^ datasize sf)
 
 -- a word that is a wide move runs: its register has the result, and the others are as they were
-pub ran-of : (w sf hw imm16 Rd : ℕ) {op : Op} → Rd < 31 → decode w ≡ some (record { sf = sf; op = op; hw = hw; imm16 = imm16; Rd = Rd }) → (ws : List ℕ) (R : Regs)
+pub ran_of : (w sf hw imm16 Rd : ℕ) {op : Op} → Rd < 31 → decode w ≡ some (record { sf = sf; op = op; hw = hw; imm16 = imm16; Rd = Rd }) → (ws : List ℕ) (R : Regs)
     → run (w ∷ ws) R ≡ run ws (write R Rd (left sf op hw imm16 Rd R))
 unfolding run exec
-ran-of w sf hw imm16 Rd l e ws R = rw (e, ne_eqb Rd 31 (λ q. omega arith))
+ran_of w sf hw imm16 Rd l e ws R = rw (e, ne_eqb Rd 31 (λ q. omega arith))
 
 pub ran : (sf opc hw imm16 Rd : ℕ) → Sizes sf opc hw imm16 Rd → {op : Op} → op_of opc ≡ some op → (ws : List ℕ) (R : Regs)
     → run (spelled sf opc hw imm16 Rd ∷ ws) R ≡ run ws (write R Rd (left sf op hw imm16 Rd R))
-ran sf opc hw imm16 Rd l e = ran-of (spelled sf opc hw imm16 Rd) sf hw imm16 Rd l.Rd-is (decoded sf opc hw imm16 Rd l e)
+ran sf opc hw imm16 Rd l e = ran_of (spelled sf opc hw imm16 Rd) sf hw imm16 Rd l.Rd_is (decoded sf opc hw imm16 Rd l e)
 
 -- what the decoder lets through
 pub legal : (w : ℕ) {sf hw imm16 Rd : ℕ} {op : Op} → decode w ≡ some (record { sf = sf; op = op; hw = hw; imm16 = imm16; Rd = Rd })
@@ -94,8 +94,8 @@ again : {A : Type 0} (b : Bool) (x y z : A) → cond b y (cond b x z) ≡ cond b
 again true x y z = refl
 again false x y z = refl
 
-pub write-write : (R : Regs) (d x y : ℕ) → write (write R d x) d y ≡ write R d y
-write-write R d x y = fun_ext (λ k. again (eqb k d) x y (R k))
+pub write_write : (R : Regs) (d x y : ℕ) → write (write R d x) d y ≡ write R d y
+write_write R d x y = fun_ext (λ k. again (eqb k d) x y (R k))
 
 pub write_same : (R : Regs) (d x : ℕ) → write R d x d ≡ x
 write_same R d x = rw (eq-eqb d d refl)
@@ -107,38 +107,38 @@ abbrev pub four : ℕ → ℕ → ℕ → ℕ → ℕ
 four a b c d = a + b * 2 ^ 16 + c * 2 ^ 32 + d * 2 ^ 48
 
 module _ (a b c d h : ℕ) (al : a < 2 ^ 16) (bl : b < 2 ^ 16) (cl : c < 2 ^ 16) (dl : d < 2 ^ 16) where
-  pub insert-0 : insert (four a b c d) (16 * 0) h ≡ four h b c d
-  insert-0 = omega arith
+  pub insert_0 : insert (four a b c d) (16 * 0) h ≡ four h b c d
+  insert_0 = omega arith
 
-  pub insert-1 : insert (four a b c d) (16 * 1) h ≡ four a h c d
-  insert-1 = omega arith
+  pub insert_1 : insert (four a b c d) (16 * 1) h ≡ four a h c d
+  insert_1 = omega arith
 
   pub insert-2 : insert (four a b c d) (16 * 2) h ≡ four a b h d
   insert-2 = omega arith
 
-  pub insert-3 : insert (four a b c d) (16 * 3) h ≡ four a b c h
-  insert-3 = omega arith
+  pub insert_3 : insert (four a b c d) (16 * 3) h ≡ four a b c h
+  insert_3 = omega arith
 
-at-four : (P : ℕ → Type 0) → P 0 → P 1 → P 2 → P 3 → (k : ℕ) → k < 4 → P k
-at-four P a b c d zero l = a
-at-four P a b c d (suc zero) l = b
-at-four P a b c d (suc (suc zero)) l = c
-at-four P a b c d (suc (suc (suc zero))) l = d
-at-four P a b c d (suc (suc (suc (suc k)))) l = absurd (omega arith)
+at_four : (P : ℕ → Type 0) → P 0 → P 1 → P 2 → P 3 → (k : ℕ) → k < 4 → P k
+at_four P a b c d zero l = a
+at_four P a b c d (suc zero) l = b
+at_four P a b c d (suc (suc zero)) l = c
+at_four P a b c d (suc (suc (suc zero))) l = d
+at_four P a b c d (suc (suc (suc (suc k)))) l = absurd (omega arith)
 
 -- at either size what is inserted stays within it
-pub insert-lt : (sf x h k : ℕ) → sf < 2 → k < 2 + 2 * sf → x < 2 ^ datasize sf → h < 2 ^ 16 → insert x (16 * k) h < 2 ^ datasize sf
-insert-lt zero x h k sl kl xl hl =
-    at-four (λ k. k < 2 → insert x (16 * k) h < 2 ^ 32) (omega arith) (omega arith) (omega arith) (omega arith) k (omega arith) kl
-insert-lt (suc zero) x h k sl kl xl hl =
-    at-four (λ k. insert x (16 * k) h < 2 ^ 64) (omega arith) (omega arith) (omega arith) (omega arith) k kl
-insert-lt (suc (suc s)) x h k sl kl xl hl = absurd (omega arith)
+pub insert_lt : (sf x h k : ℕ) → sf < 2 → k < 2 + 2 * sf → x < 2 ^ datasize sf → h < 2 ^ 16 → insert x (16 * k) h < 2 ^ datasize sf
+insert_lt zero x h k sl kl xl hl =
+    at_four (λ k. k < 2 → insert x (16 * k) h < 2 ^ 32) (omega arith) (omega arith) (omega arith) (omega arith) k (omega arith) kl
+insert_lt (suc zero) x h k sl kl xl hl =
+    at_four (λ k. insert x (16 * k) h < 2 ^ 64) (omega arith) (omega arith) (omega arith) (omega arith) k kl
+insert_lt (suc (suc s)) x h k sl kl xl hl = absurd (omega arith)
 
 -- MOVN of a halfword is all ones with its inverse
 pub inverted : (sf h k : ℕ) → sf < 2 → k < 2 + 2 * sf → h < 2 ^ 16
     → Ones (datasize sf) - insert 0 (16 * k) h ≡ insert (Ones (datasize sf)) (16 * k) (0xFFFF - h)
 inverted zero h k sl kl hl =
-    at-four (λ k. k < 2 → Ones 32 - insert 0 (16 * k) h ≡ insert (Ones 32) (16 * k) (0xFFFF - h)) (omega arith) (omega arith) (omega arith) (omega arith) k (omega arith) kl
+    at_four (λ k. k < 2 → Ones 32 - insert 0 (16 * k) h ≡ insert (Ones 32) (16 * k) (0xFFFF - h)) (omega arith) (omega arith) (omega arith) (omega arith) k (omega arith) kl
 inverted (suc zero) h k sl kl hl =
-    at-four (λ k. Ones 64 - insert 0 (16 * k) h ≡ insert (Ones 64) (16 * k) (0xFFFF - h)) (omega arith) (omega arith) (omega arith) (omega arith) k kl
+    at_four (λ k. Ones 64 - insert 0 (16 * k) h ≡ insert (Ones 64) (16 * k) (0xFFFF - h)) (omega arith) (omega arith) (omega arith) (omega arith) k kl
 inverted (suc (suc s)) h k sl kl hl = absurd (omega arith)

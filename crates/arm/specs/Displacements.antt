@@ -24,8 +24,8 @@ abbrev pub ADRP : ℕ → ℕ
 ADRP w = SignExtend 33 (join 12 (join 2 (bits 23 5 w) (bits 30 29 w)) 0)
 
 -- what ADRP leaves in its register, executed at the address pc: base = PC, base<11:0> = Zeros(12), base + imm
-abbrev pub pageADRP : (pc w : ℕ) → ℕ
-pageADRP pc w = (join 12 (bits 63 12 pc) 0 + ADRP w) % 2 ^ 64
+abbrev pub page_adrp : (pc w : ℕ) → ℕ
+page_adrp pc w = (join 12 (bits 63 12 pc) 0 + ADRP w) % 2 ^ 64
 
 -- LDR (literal): SignExtend(imm19 : '00', 64)
 abbrev pub LDR : ℕ → ℕ

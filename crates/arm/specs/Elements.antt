@@ -6,8 +6,8 @@ use Rattle.arm.specs.Bits.{Ones, Replicate}
 -- an element length at width w: 2, 4, 8, .. up to w
 pub record Element (w e : ℕ) : Type 0 where
   pub log : ℕ
-  pub log-low : 1 ≤ log
-  pub log-high : log ≤ 6
+  pub log_low : 1 ≤ log
+  pub log_high : log ≤ 6
   pub is : e ≡ 2 ^ log
   pub fits : e ≤ w
 
@@ -27,5 +27,5 @@ pub record IsRun (w x e p l : ℕ) : Type 0 where
 abbrev pub n_of : ℕ → ℕ
 n_of e = e / 64
 
-abbrev pub sOf : ℕ → ℕ → ℕ
-sOf e l = (127 + l - 2 * e) % 64
+abbrev pub s_of : ℕ → ℕ → ℕ
+s_of e l = (127 + l - 2 * e) % 64

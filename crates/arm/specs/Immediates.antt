@@ -12,18 +12,18 @@ VFPExpand E F imm8 =
     join F (join E (bits 7 7 imm8) exp) frac
 
 -- E = if N == 16 then 5 elsif N == 32 then 8 else 11
-abbrev pub exponentBits : ℕ → ℕ
-exponentBits N = cond (eqb N 16) 5 (cond (eqb N 32) 8 11)
+abbrev pub exponent_bits : ℕ → ℕ
+exponent_bits N = cond (eqb N 16) 5 (cond (eqb N 32) 8 11)
 
 -- F = (N - E) - 1
 unfoldable pub VFPExpandImm : ℕ → ℕ → ℕ
-VFPExpandImm N imm8 = let E = exponentBits N in VFPExpand E (N - E - 1) imm8
+VFPExpandImm N imm8 = let E = exponent_bits N in VFPExpand E (N - E - 1) imm8
 
 -- Replicate(imm8<n-1>, 8) : .. : Replicate(imm8<0>, 8): byte i is eight times bit i
-unfoldable pub byteMasks : ℕ → ℕ → ℕ
-byteMasks zero imm8 = 0
-byteMasks (suc n) imm8 = join 8 (byteMasks n (imm8 / 2)) (Replicate 1 (bits 0 0 imm8) 8)
+unfoldable pub byte_masks : ℕ → ℕ → ℕ
+byte_masks zero imm8 = 0
+byte_masks (suc n) imm8 = join 8 (byte_masks n (imm8 / 2)) (Replicate 1 (bits 0 0 imm8) 8)
 
 -- AdvSIMDExpandImm, op 1, cmode 1110
 abbrev pub ByteMask : ℕ → ℕ
-ByteMask imm8 = byteMasks 8 imm8
+ByteMask imm8 = byte_masks 8 imm8

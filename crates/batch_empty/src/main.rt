@@ -1,4 +1,6 @@
 // The batch program on an empty input.
+#![tactic(auto)]
+
 fn main() {
     batches::run_all();
 }

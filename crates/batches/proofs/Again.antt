@@ -1,17 +1,17 @@
 -- A turn of the loop that prints a block. Assumes nothing.
 use Rattle.std.proofs.Common.{◌≡◌, ℕ, zero, suc, ◌+◌, ◌-◌, ◌*◌, ◌/◌, ◌%◌, ◌^◌, ◌<◌, ◌≤◌, Bool, false, List, [], ◌∷◌, ◌++◌, length, get_or, take, drop, sym, refl, ap, ◌∙◌, add-one, arith, length-append, length-drop, length-take, take-suc}
 use lib.Seq.{sets, length-sets}
-use Rattle.words.proofs.Runs.{sets-append}
+use Rattle.words.proofs.Runs.{sets_append}
 use Rattle.lines.specs.Item.{Item, items_of}
-use Rattle.lines.specs.Text.{textsOf, line_at}
+use Rattle.lines.specs.Text.{texts_of, line_at}
 use Rattle.lines.specs.declared.Answer.{Answer}
-use Rattle.lines.proofs.Lines.{line-fits}
+use Rattle.lines.proofs.Lines.{line_fits}
 use Rattle.records.specs.Records.{LineOf}
 use Rattle.records.specs.Answers.{OneLine}
-use Rattle.records.specs.Inputs.{offsetAt, Told, none, more}
+use Rattle.records.specs.Inputs.{offset_after, Told, none, more}
 use Rattle.records.proofs.Blocks.{offset_at}
-use Rattle.batches.specs.Printed.{endsOf, Upto}
-use Rattle.lines.proofs.Lines.{any-line, texts-append}
+use Rattle.batches.specs.Printed.{ends_of, Upto}
+use Rattle.lines.proofs.Lines.{any_line, texts_append}
 
 -- ---- twelve bytes by value
 
@@ -19,9 +19,9 @@ abbrev pub firsts : ℕ → List ℕ → List ℕ
 firsts zero l = []
 firsts (suc n) l = firsts n l ++ (get_or l n 0 ∷ [])
 
-pub firsts-take : (n : ℕ) (l : List ℕ) → n ≤ length l → firsts n l ≡ take n l
-firsts-take zero l h = refl
-firsts-take (suc n) l h = ap (λ (t : List ℕ). t ++ (get_or l n 0 ∷ [])) (firsts-take n l (omega arith)) ∙ sym (take-suc l n 0 (omega arith))
+pub firsts_take : (n : ℕ) (l : List ℕ) → n ≤ length l → firsts n l ≡ take n l
+firsts_take zero l h = refl
+firsts_take (suc n) l h = ap (λ (t : List ℕ). t ++ (get_or l n 0 ∷ [])) (firsts_take n l (omega arith)) ∙ sym (take-suc l n 0 (omega arith))
 
 -- ---- the loop
 
@@ -45,28 +45,28 @@ module _ (offset : ℕ) (bs o : List ℕ) where
       → Upto offset bs o i at next false o' → i + 12 ≤ length bs → at + 96 ≤ length o'
       → OneLine (LineOf (take 12 (drop i bs)) next) a
       → ◌≡◌ {A = ℕ × List ℕ} (at', o'') (line_at o' at (items_of a)) → next' ≡ (next + 12) % 2 ^ 64
-      → Upto offset bs o (i + 12) at' next' (endsOf (items_of a)) o''
+      → Upto offset bs o (i + 12) at' next' (ends_of (items_of a)) o''
   again {i} {at} {next} {at'} {next'} {o'} {o''} {a} u h room l w n =
       let k = u.count in
       let is = u.lines in
       let js = l.item ∷ [] in
-      let f = w ∙ line-fits o' at (items_of a) room in
-      let at-is : at' ≡ at + length (textsOf js) = ap (λ (x : ℕ × List ℕ). x.0) f ∙ ap (λ (t : List Item). at + length (textsOf t)) l.line in
-      let run_is : o'' ≡ sets o' at (textsOf js) = ap (λ (x : ℕ × List ℕ). x.1) f ∙ ap (λ (t : List Item). sets o' at (textsOf t)) l.line in
-      let short : length (textsOf js) ≤ 96 = rw l.line at (any-line a) in
-      let texts : textsOf (is ++ js) ≡ textsOf is ++ textsOf js = texts-append is js in
-      let z : 0 + length (textsOf is) ≡ at = omega (arith, u.text) in
+      let f = w ∙ line_fits o' at (items_of a) room in
+      let at-is : at' ≡ at + length (texts_of js) = ap (λ (x : ℕ × List ℕ). x.0) f ∙ ap (λ (t : List Item). at + length (texts_of t)) l.line in
+      let run_is : o'' ≡ sets o' at (texts_of js) = ap (λ (x : ℕ × List ℕ). x.1) f ∙ ap (λ (t : List Item). sets o' at (texts_of t)) l.line in
+      let short : length (texts_of js) ≤ 96 = rw l.line at (any_line a) in
+      let texts : texts_of (is ++ js) ≡ texts_of is ++ texts_of js = texts_append is js in
+      let z : 0 + length (texts_of is) ≡ at = omega (arith, u.text) in
       record {
         count = suc k;
         lines = is ++ js;
         told = rw l.line (more l.item u.told (rw (u.records, u.behind) at l.says));
         records = omega (arith, u.records);
         within = h;
-        behind = n ∙ ap (λ (x : ℕ). offsetAt x 1) u.behind ∙ offset_at offset k 1 ∙ ap (offsetAt offset) (add-one k);
-        text = at-is ∙ ap (λ (x : ℕ). x + length (textsOf js)) u.text ∙ sym (ap length texts ∙ length-append (textsOf is) (textsOf js));
-        holds = run_is ∙ ap (λ (q : List ℕ). sets q at (textsOf js)) u.holds
-            ∙ ap (λ (x : ℕ). sets (sets o 0 (textsOf is)) x (textsOf js)) (sym z) ∙ sym (sets-append (textsOf is) (textsOf js) o 0) ∙ ap (sets o 0) (sym texts);
-        same = ap length run_is ∙ length-sets o' at (textsOf js) ∙ u.same;
+        behind = n ∙ ap (λ (x : ℕ). offset_after x 1) u.behind ∙ offset_at offset k 1 ∙ ap (offset_after offset) (add-one k);
+        text = at-is ∙ ap (λ (x : ℕ). x + length (texts_of js)) u.text ∙ sym (ap length texts ∙ length-append (texts_of is) (texts_of js));
+        holds = run_is ∙ ap (λ (q : List ℕ). sets q at (texts_of js)) u.holds
+            ∙ ap (λ (x : ℕ). sets (sets o 0 (texts_of is)) x (texts_of js)) (sym z) ∙ sym (sets_append (texts_of is) (texts_of js) o 0) ∙ ap (sets o 0) (sym texts);
+        same = ap length run_is ∙ length-sets o' at (texts_of js) ∙ u.same;
         room = omega (arith, at-is, short, u.same);
       }
 
@@ -77,7 +77,7 @@ pub record Reached (offset : ℕ) (bs : List ℕ) (i next : ℕ) : Type 0 where
   pub count : ℕ
   pub records : i ≡ 12 * count
   pub within : i ≤ length bs
-  pub behind : next ≡ offsetAt offset count
+  pub behind : next ≡ offset_after offset count
 
 module _ {offset : ℕ} {bs : List ℕ} where
   pub started : offset < 2 ^ 64 → Reached offset bs 0 offset
@@ -89,11 +89,11 @@ module _ {offset : ℕ} {bs : List ℕ} where
     count = p.count + u.count;
     records = omega (arith, p.records, u.records);
     within = omega (arith, p.within, simp (length-take, length-drop) at u.within);
-    behind = u.behind ∙ ap (λ (x : ℕ). offsetAt x u.count) p.behind ∙ offset_at offset p.count u.count;
+    behind = u.behind ∙ ap (λ (x : ℕ). offset_after x u.count) p.behind ∙ offset_at offset p.count u.count;
   }
 
-  pub all-reached : {i next : ℕ} → Reached offset bs i next → length bs - i < 12 → next ≡ offsetAt offset (length bs / 12)
-  all-reached p h = p.behind ∙ ap (offsetAt offset) (omega (arith, p.records, p.within))
+  pub all_reached : {i next : ℕ} → Reached offset bs i next → length bs - i < 12 → next ≡ offset_after offset (length bs / 12)
+  all_reached p h = p.behind ∙ ap (offset_after offset) (omega (arith, p.records, p.within))
 
 no_lines : {offset : ℕ} {bs : List ℕ} {e : Bool} {is : List Item} → Told offset bs 0 e is → is ≡ []
 no_lines none = refl
@@ -103,6 +103,6 @@ pub progress : {offset : ℕ} {bs o : List ℕ} {taken written next : ℕ} {e : 
     → Upto offset bs o taken written next e o' → (e ≡ false → taken + 12 ≤ length bs → length o < written + 96) → e ≡ false → 96 ≤ length o → 12 ≤ length bs → 12 ≤ taken
 progress {offset} {bs} {o} {taken} {written} {e = b} u f e r h = go u.count u.told u.records u.text
   where
-    go : (k : ℕ) {is : List Item} → Told offset bs k b is → taken ≡ 12 * k → written ≡ length (textsOf is) → 12 ≤ taken
+    go : (k : ℕ) {is : List Item} → Told offset bs k b is → taken ≡ 12 * k → written ≡ length (texts_of is) → 12 ≤ taken
     go zero told t w = absurd (omega (arith, f e (omega (arith, t)), rw (no_lines told) at w))
     go (suc k) told t w = omega (arith, t)

@@ -1,14 +1,16 @@
 // The batch program: records from standard input, and a line for each on standard output. Input comes in blocks of whole records through a
 // fixed buffer, and lines go out through another. What ends it but the end of the input is told on standard error.
+#![tactic(auto)]
+
 ghost use Rattle.std.specs.Prelude.{◌≡◌, ◌+◌, ◌/◌, ◌<◌, ◌≤◌, false, length, take};
 ghost use Rattle.lines.specs.Item.{items_of};
-ghost use Rattle.records.specs.Inputs.{offsetAt};
-ghost use Rattle.batches.specs.Printed.{endsOf, Upto};
+ghost use Rattle.records.specs.Inputs.{offset_after};
+ghost use Rattle.batches.specs.Printed.{ends_of, Upto};
 
 use lines::Answer;
 
 // How far the records of a block were printed: bytes of the block and of the run, the offset behind them, and whether that was the end.
-#[derive(Drop)]
+#[derive(Clone, Copy)]
 struct Printed {
     taken: usize,
     written: usize,
@@ -17,14 +19,14 @@ struct Printed {
 }
 
 // Where the next block stands, and whether there is none.
-#[derive(Drop)]
+#[derive(Clone, Copy)]
 struct Next {
     offset: u64,
     over: bool,
 }
 
 // How many bytes were read, and whether a read failed behind them.
-#[derive(Drop)]
+#[derive(Clone, Copy)]
 struct Filled {
     count: usize,
     failed: bool,
@@ -115,7 +117,7 @@ fn whole(bytes: &[u8]) -> [u8; 12]
 }
 
 fn ends(a: Answer) -> bool
-    ensures { result ≡ endsOf (items_of a) }
+    ensures { result ≡ ends_of (items_of a) }
 {
     match a {
         Answer::Nothing => false,
@@ -168,7 +170,7 @@ fn print(bytes: &[u8], offset: u64, out: &mut [u8]) -> Printed
 // The lines of a block, written: one write for each run of lines. It is over also where nothing more can be written.
 fn pass(bytes: &[u8], offset: u64, out: &mut [u8]) -> Next
     requires { 96 ≤ length out.old }
-    ensures { result.over ≡ false → result.offset ≡ offsetAt offset (length bytes.now / 12) }
+    ensures { result.over ≡ false → result.offset ≡ offset_after offset (length bytes.now / 12) }
 {
     let mut i = 0;
     let mut next = offset;
@@ -211,7 +213,7 @@ fn last(count: usize, offset: u64, out: &mut [u8]) {
 // A block of the input. Only the last one is not full, and only that one has a tail, which is cut where the input ended.
 fn block(buf: &mut [u8], offset: u64, out: &mut [u8]) -> Next
     requires { 96 ≤ length out.old }
-    ensures { result.over ≡ false → result.offset ≡ offsetAt offset (length buf.new / 12) }
+    ensures { result.over ≡ false → result.offset ≡ offset_after offset (length buf.new / 12) }
 {
     let f = fill(buf);
     let n = f.count;

@@ -3,25 +3,25 @@ use Rattle.std.proofs.Common.{ℕ, ◌^◌, List, [], ◌∷◌, refl}
 use mathlib.Core.Option.{Option, some, none}
 use Rattle.arm.proofs.Worked.{Worked}
 use Rattle.words.specs.Said.{Said, ok, no}
-use Rattle.words.specs.Place.{placeAt, address_of}
+use Rattle.words.specs.Place.{place_at, address_of}
 use Rattle.words.specs.declared.Place.{Place}
 use Rattle.writers.specs.Put.{put_at, based, put_of}
-use Rattle.forms.specs.Form.{hasForm}
-use Rattle.displacements.specs.Answer.{placeSaid}
-use Rattle.disp_targets.specs.Target.{targetSaid, low_of, carrying}
+use Rattle.forms.specs.Form.{is_of_form}
+use Rattle.displacements.specs.Answer.{place_said}
+use Rattle.disp_targets.specs.Target.{target_said, low_of, carrying}
 
 pub written-right :
     Worked
-    ((targetSaid 4 0x10000000 0x3000 0x1FFF, no 11)  -- an ADR word at ADRP
-    ∷ (targetSaid 0 0x14000000 0 0xFFFFFFFFFFFFFFFC, ok (0x14000001 ∷ []))  -- over the end of the addresses
-    ∷ (targetSaid 0 0x14000000 (2 ^ 63) 0, no 5)
+    ((target_said 4 0x10000000 0x3000 0x1FFF, no 11)  -- an ADR word at ADRP
+    ∷ (target_said 0 0x14000000 0 0xFFFFFFFFFFFFFFFC, ok (0x14000001 ∷ []))  -- over the end of the addresses
+    ∷ (target_said 0 0x14000000 (2 ^ 63) 0, no 5)
     ∷ [])
-unfolding placeSaid hasForm
+unfolding place_said is_of_form
 written-right = refl
 
 -- the word and the low bits of a target
 abbrev told : (n b t a : ℕ) → Said (List ℕ × Option ℕ)
-told n b t a = carrying (low_of n t) (targetSaid n b t a)
+told n b t a = carrying (low_of n t) (target_said n b t a)
 
 pub targets-right :
     Worked
@@ -43,7 +43,7 @@ pub targets-right :
     ∷ (told 0 0x14000000 0x3006 0x3000, no 4)  -- or loses them
     ∷ (told 6 0x90000000 0x3004 0x1000, no 7)
     ∷ [])
-unfolding placeSaid hasForm
+unfolding place_said is_of_form
 targets-right = refl
 
 -- a target written from a place of a run of four words
@@ -51,16 +51,16 @@ abbrev run : List ℕ
 run = 1 ∷ 2 ∷ 3 ∷ 4 ∷ []
 
 abbrev from : (base position n b t : ℕ) → Said Place × List ℕ
-from base position n b t = let at = placeAt base position in put_of run at (targetSaid n b t (address_of at))
+from base position n b t = let at = place_at base position in put_of run at (target_said n b t (address_of at))
 
 pub places-right :
     Worked
-    ((from 0 3 0 0x14000000 0x1000, (ok (placeAt 0 4), 1 ∷ 2 ∷ 3 ∷ 0x140003FD ∷ []))
-    ∷ (from 0x1000 3 0 0x14000000 0x1000, (ok (placeAt 0x1000 4), 1 ∷ 2 ∷ 3 ∷ 0x17FFFFFD ∷ []))
-    ∷ (from 0xFFFFFFFFFFFFFFFC 0 0 0x14000000 0, (ok (placeAt 0xFFFFFFFFFFFFFFFC 1), 0x14000001 ∷ 2 ∷ 3 ∷ 4 ∷ []))
-    ∷ (from 0xFFFFFFFFFFFFFFFC 1 0 0x14000000 0, (ok (placeAt 0xFFFFFFFFFFFFFFFC 2), 1 ∷ 0x14000000 ∷ 3 ∷ 4 ∷ []))  -- its address is 0
-    ∷ (from 0xFFFFFFFFFFFFFFFC 3 0 0x14000000 0, (ok (placeAt 0xFFFFFFFFFFFFFFFC 4), 1 ∷ 2 ∷ 3 ∷ 0x17FFFFFE ∷ []))
-    ∷ (from 0xFFC 1 4 0x90000000 0x3456, (ok (placeAt 0xFFC 2), 1 ∷ 0xD0000000 ∷ 3 ∷ 4 ∷ []))  -- the word is on the next page
+    ((from 0 3 0 0x14000000 0x1000, (ok (place_at 0 4), 1 ∷ 2 ∷ 3 ∷ 0x140003FD ∷ []))
+    ∷ (from 0x1000 3 0 0x14000000 0x1000, (ok (place_at 0x1000 4), 1 ∷ 2 ∷ 3 ∷ 0x17FFFFFD ∷ []))
+    ∷ (from 0xFFFFFFFFFFFFFFFC 0 0 0x14000000 0, (ok (place_at 0xFFFFFFFFFFFFFFFC 1), 0x14000001 ∷ 2 ∷ 3 ∷ 4 ∷ []))
+    ∷ (from 0xFFFFFFFFFFFFFFFC 1 0 0x14000000 0, (ok (place_at 0xFFFFFFFFFFFFFFFC 2), 1 ∷ 0x14000000 ∷ 3 ∷ 4 ∷ []))  -- its address is 0
+    ∷ (from 0xFFFFFFFFFFFFFFFC 3 0 0x14000000 0, (ok (place_at 0xFFFFFFFFFFFFFFFC 4), 1 ∷ 2 ∷ 3 ∷ 0x17FFFFFE ∷ []))
+    ∷ (from 0xFFC 1 4 0x90000000 0x3456, (ok (place_at 0xFFC 2), 1 ∷ 0xD0000000 ∷ 3 ∷ 4 ∷ []))  -- the word is on the next page
     ∷ (from 4 4 0 0x14000000 0, (no 8, run))
     ∷ (from 1 0 0 0x14000000 0, (no 15, run))
     ∷ (from 2 0 0 0x14000000 0, (no 15, run))
@@ -69,5 +69,5 @@ pub places-right :
     ∷ (from 4 4 6 0x10000001 2, (no 7, run))
     ∷ (from 2 4 6 0x10000001 2, (no 15, run))  -- 15 before 7
     ∷ [])
-unfolding placeSaid hasForm put_of put_at based
+unfolding place_said is_of_form put_of put_at based
 places-right = refl

@@ -8,7 +8,7 @@ use Rattle.words.specs.Answer.{number_of}
 use Rattle.words.specs.Listed.{list_of}
 use Rattle.words.specs.declared.Place.{Place}
 use Rattle.words.specs.declared.Words.{Words}
-use Rattle.displacements.specs.Answer.{dispSaid}
+use Rattle.displacements.specs.Answer.{disp_said}
 use Rattle.disp_targets.specs.declared.TargetWord.{TargetWord}
 use Rattle.disp_targets.specs.declared.TargetWord.TheVariants.{Word, PageWord, NoWord}
 use Rattle.disp_targets.specs.declared.TargetWritten.{TargetWritten}
@@ -22,8 +22,8 @@ page_of n a = cond (n == 4) (a - a % 4096) a
 abbrev pub between : ℕ → ℕ → ℤ
 between t a = to_z w64 ((t + (2 ^ 64 - a)) % 2 ^ 64)
 
-abbrev pub targetSaid : ℕ → ℕ → ℕ → ℕ → Said (List ℕ)
-targetSaid n b t a = dispSaid n b (between (page_of n t) (page_of n a))
+abbrev pub target_said : ℕ → ℕ → ℕ → ℕ → Said (List ℕ)
+target_said n b t a = disp_said n b (between (page_of n t) (page_of n a))
 
 -- "The target entry's format 4 answer also carries the low 12 bits of the target"; no other format's carries any
 abbrev pub low_of : ℕ → ℕ → Option ℕ
@@ -39,18 +39,18 @@ abbrev pub carried : {A : Type 0} → Option ℕ → Said A × List ℕ → Said
 carried l (x, ws) = (carrying l x, ws)
 
 -- the target entry's answer by value says words, and at format 4 low bits
-abbrev pub wordSaid : TargetWord → Said (Words × Option ℕ)
-wordSaid (Word f) = ok (f, none)
-wordSaid (PageWord f l) = ok (f, some l.0)
-wordSaid (NoWord r) = no (number_of r)
+abbrev pub word_said : TargetWord → Said (Words × Option ℕ)
+word_said (Word f) = ok (f, none)
+word_said (PageWord f l) = ok (f, some l.0)
+word_said (NoWord r) = no (number_of r)
 
 -- and written, a place
-abbrev pub writtenSaid : TargetWritten → Said (Place × Option ℕ)
-writtenSaid (Wrote p) = ok (p, none)
-writtenSaid (WrotePage p l) = ok (p, some l.0)
-writtenSaid (NotWritten r) = no (number_of r)
+abbrev pub written_said : TargetWritten → Said (Place × Option ℕ)
+written_said (Wrote p) = ok (p, none)
+written_said (WrotePage p l) = ok (p, some l.0)
+written_said (NotWritten r) = no (number_of r)
 
 -- a target's word by value, put by a writer into a run: what the writer says of it with the low bits beside it, or what it says of the refusal
-abbrev pub putTo : (Said (List ℕ) → Said Place × List ℕ) → Said (Words × Option ℕ) → Said (Place × Option ℕ) × List ℕ
-putTo put (ok (f, l)) = carried l (put (ok (list_of f)))
-putTo put (no n) = carried none (put (no n))
+abbrev pub put_to : (Said (List ℕ) → Said Place × List ℕ) → Said (Words × Option ℕ) → Said (Place × Option ℕ) × List ℕ
+put_to put (ok (f, l)) = carried l (put (ok (list_of f)))
+put_to put (no n) = carried none (put (no n))

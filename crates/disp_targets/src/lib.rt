@@ -1,20 +1,22 @@
 // Module 7: the distance from an instruction to a target in the instruction's field; for an ADRP that of their pages, and the target's low bits.
+#![tactic(auto)]
+
 ghost use Rattle.std.specs.Prelude.{◌≡◌, ◌%◌};
 ghost use Rattle.std.proofs.Math.Option.{some, none};
 ghost use Rattle.words.specs.Answer.{said};
 ghost use Rattle.words.specs.Listed.{packed};
 ghost use Rattle.words.specs.Place.{address_of};
 ghost use Rattle.writers.specs.Put.{put_of};
-ghost use Rattle.disp_targets.specs.Target.{page_of, between, targetSaid, low_of, carrying, carried, wordSaid, writtenSaid, putTo};
+ghost use Rattle.disp_targets.specs.Target.{page_of, between, target_said, low_of, carrying, carried, word_said, written_said, put_to};
 
 use words::{Address, ByteDistance, Opc, Place, Refusal, Worded, Words, Written};
 
 // The low 12 bits of an address: where it lies in its page.
-#[derive(Drop)]
+#[derive(Clone, Copy)]
 pub struct Low12(pub u32);
 
 // What the target entry makes by value: the word, and for an ADRP the target's low bits too, for the ADD that follows.
-#[derive(Drop)]
+#[derive(Clone, Copy)]
 pub enum TargetWord {
     Word(Words),
     PageWord(Words, Low12),
@@ -22,7 +24,7 @@ pub enum TargetWord {
 }
 
 // What it answers where it writes: the place just past the word, and for an ADRP the target's low bits too.
-#[derive(Drop)]
+#[derive(Clone, Copy)]
 pub enum TargetWritten {
     Wrote(Place),
     WrotePage(Place, Low12),
@@ -57,7 +59,7 @@ fn low_12(target: Address) -> Low12
 // The word of a base, a target and the address of the instruction, by value: 7, 11, 6, 4, 5. An ADRP never gives 4, and its answer has the target's
 // low bits.
 pub fn disp_target_word(format: u32, base: Opc, target: Address, address: Address) -> TargetWord
-    ensures { wordSaid result ≡ carrying (low_of format target.0) (packed (targetSaid format base.0 target.0 address.0)) }
+    ensures { word_said result ≡ carrying (low_of format target.0) (packed (target_said format base.0 target.0 address.0)) }
 {
     let low = low_12(target);
     match displacements::disp_word(format, base, distance_to(format, target, address)) {
@@ -74,7 +76,7 @@ pub fn disp_target_word(format: u32, base: Opc, target: Address, address: Addres
 
 // What a writer answers, and the same with low bits.
 fn wrote(w: Written) -> TargetWritten
-    ensures { writtenSaid result ≡ carrying none (said w) }
+    ensures { written_said result ≡ carrying none (said w) }
 {
     match w {
         Written::Done(p) => TargetWritten::Wrote(p),
@@ -83,7 +85,7 @@ fn wrote(w: Written) -> TargetWritten
 }
 
 fn wrote_page(w: Written, low: Low12) -> TargetWritten
-    ensures { writtenSaid result ≡ carrying (some low.0) (said w) }
+    ensures { written_said result ≡ carrying (some low.0) (said w) }
 {
     match w {
         Written::Done(p) => TargetWritten::WrotePage(p, low),
@@ -93,7 +95,7 @@ fn wrote_page(w: Written, low: Low12) -> TargetWritten
 
 // A target's word by value, or its refusal, at a place.
 pub fn put_target(words: &mut [u32], at: Place, m: TargetWord) -> TargetWritten
-    ensures { (writtenSaid result, words.new) ≡ putTo (put_of words.old at) (wordSaid m) }
+    ensures { (written_said result, words.new) ≡ put_to (put_of words.old at) (word_said m) }
 {
     match m {
         TargetWord::Word(w) => wrote(writers::put(words, at, Worded::Made(w))),
@@ -111,7 +113,7 @@ pub fn emit_disp_target(
     base: Opc,
     target: Address,
 ) -> TargetWritten
-    ensures { (writtenSaid result, words.new) ≡ carried (low_of format target.0) (put_of words.old at (targetSaid format base.0 target.0 (address_of at))) }
+    ensures { (written_said result, words.new) ≡ carried (low_of format target.0) (put_of words.old at (target_said format base.0 target.0 (address_of at))) }
 {
     put_target(
         words,

@@ -4,7 +4,7 @@ use Prim.Native.Nat.{◌∣◌}
 use native.Mathlib.Nat.{dvd-sub, dvd_of_mod-eq-zero, mod-eq-zero_of_dvd, dvd-mul_left}
 use lib.Pow.{mod-pow-add}
 use lib.Signed.{mag}
-use Rattle.arm.proofs.SignExtends.{power, double, shr_zero, shr-more}
+use Rattle.arm.proofs.SignExtends.{power, double, shr_zero, shr_more}
 
 -- ---- multiples of 2 ^ k
 
@@ -16,13 +16,13 @@ whole : (k : ℕ) → k ≤ 64 → 2 ^ k ∣ 2 ^ 64
 whole k h = rw (power k 64 h) (dvd-mul_left (2 ^ k) (2 ^ (64 - k)))
 
 module _ (k : ℕ) (h : k ≤ 64) where
-  pub steps-bits : (d : ℤ) → nat_abs d % 2 ^ k ≡ 0 → of_z w64 d % 2 ^ k ≡ 0
-  steps-bits (pos a) e = e
-  steps-bits (negsuc a) e = less (2 ^ k) (2 ^ 64) (suc a) (whole k h) e
+  pub steps_bits : (d : ℤ) → nat_abs d % 2 ^ k ≡ 0 → of_z w64 d % 2 ^ k ≡ 0
+  steps_bits (pos a) e = e
+  steps_bits (negsuc a) e = less (2 ^ k) (2 ^ 64) (suc a) (whole k h) e
 
-  pub bits-steps : (d : ℤ) → SFits w64 d → of_z w64 d % 2 ^ k ≡ 0 → nat_abs d % 2 ^ k ≡ 0
-  bits-steps (pos a) f e = e
-  bits-steps (negsuc a) f e =
+  pub bits_steps : (d : ℤ) → SFits w64 d → of_z w64 d % 2 ^ k ≡ 0 → nat_abs d % 2 ^ k ≡ 0
+  bits_steps (pos a) f e = e
+  bits_steps (negsuc a) f e =
       let back : 2 ^ 64 - (2 ^ 64 - suc a) ≡ suc a = omega (arith, f.sfits) in
       rw back at (less (2 ^ k) (2 ^ 64) (2 ^ 64 - suc a) (whole k h) e)
 
@@ -44,5 +44,5 @@ module _ (t : ℕ) (lo : 1 ≤ t) (hi : t < 63) (d : ℤ) (f : SFits w64 d) (y :
   pub in_reach : y / 2 ^ t ≡ 0 → mag d < 2 ^ (t - 1)
   in_reach z = near (2 ^ (t - 1)) (pow_mono {j = 62} (omega arith)) d f (omega (arith, shr_zero t y z, double t lo))
 
-  pub out-of-reach : (y / 2 ^ t ≡ 0 → ⊥) → 2 ^ (t - 1) ≤ mag d
-  out-of-reach z = far (2 ^ (t - 1)) d f (omega (arith, shr-more t y z, double t lo))
+  pub out_of_reach : (y / 2 ^ t ≡ 0 → ⊥) → 2 ^ (t - 1) ≤ mag d
+  out_of_reach z = far (2 ^ (t - 1)) d f (omega (arith, shr_more t y z, double t lo))

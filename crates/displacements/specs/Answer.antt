@@ -5,11 +5,11 @@ use Rattle.std.proofs.Common.{to_z, of_z}
 use Rattle.arm.specs.Displacements.{B, Bcond, TBZ, ADR, ADRP, LDR}
 use Rattle.words.specs.Said.{Said, ok, no}
 use Rattle.words.specs.Answer.{number_of}
-use Rattle.forms.specs.Form.{hasForm}
+use Rattle.forms.specs.Form.{is_of_form}
 use Rattle.displacements.specs.declared.Form.{Form}
 use Rattle.displacements.specs.declared.DistanceAnswer.{DistanceAnswer}
 use Rattle.displacements.specs.declared.DistanceAnswer.TheVariants.{Distance, NoDistance}
-use Rattle.displacements.specs.Forms.{form_of, fieldIn, put_in, step, least, greatest}
+use Rattle.displacements.specs.Forms.{form_of, field_in, put_in, step, least, greatest}
 
 -- ---- writing: order 7, 11, 6, 4, 5
 
@@ -18,19 +18,19 @@ abbrev pub steps_of : Form → ℤ → ℕ
 steps_of f d = of_z w64 d / step f % 2 ^ f.bits
 
 -- at a format: "base word already has a bit set in the field", "not a multiple of the format's step", "outside the format's range", or the word
-unfoldable pub placeSaid : Form → ℕ → ℤ → Said (List ℕ)
-placeSaid f b d =
-    cond (nat_lt 0 (fieldIn f b)) (no 6)
+unfoldable pub place_said : Form → ℕ → ℤ → Said (List ℕ)
+place_said f b d =
+    cond (nat_lt 0 (field_in f b)) (no 6)
     (cond (nat_lt 0 (unsigned_abs d % step f)) (no 4)
     (cond (int_lt d (least f) || int_lt (greatest f) d) (no 5)
     (ok (put_in f b (steps_of f d) ∷ []))))
 
 -- the distance d into the base word b at format n
-abbrev pub dispSaid : ℕ → ℕ → ℤ → Said (List ℕ)
-dispSaid n b d =
+abbrev pub disp_said : ℕ → ℕ → ℤ → Said (List ℕ)
+disp_said n b d =
     cond (nat_lt 5 n) (no 7)
-    (cond (not (hasForm n b)) (no 11)
-    (placeSaid (form_of n) b d))
+    (cond (not (is_of_form n b)) (no 11)
+    (place_said (form_of n) b d))
 
 -- ---- reading
 
@@ -39,10 +39,10 @@ abbrev pub offset : ℕ → ℕ → ℕ
 offset n w = slice_index (B w ∷ Bcond w ∷ TBZ w ∷ ADR w ∷ ADRP w ∷ LDR w ∷ []) n
 
 -- "any word and format (refusal 7)", "the signed distance"
-abbrev pub readSaid : ℕ → ℕ → Said ℤ
-readSaid w n = cond (nat_lt 5 n) (no 7) (ok (to_z w64 (offset n w)))
+abbrev pub read_said : ℕ → ℕ → Said ℤ
+read_said w n = cond (nat_lt 5 n) (no 7) (ok (to_z w64 (offset n w)))
 
 -- the reader's answer says a distance
-abbrev pub distanceSaid : DistanceAnswer → Said ℤ
-distanceSaid (Distance d) = ok d.0
-distanceSaid (NoDistance r) = no (number_of r)
+abbrev pub distance_said : DistanceAnswer → Said ℤ
+distance_said (Distance d) = ok d.0
+distance_said (NoDistance r) = no (number_of r)

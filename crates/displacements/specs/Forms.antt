@@ -32,13 +32,13 @@ abbrev pub greatest : Form → ℤ
 greatest f = pos (reach f - step f)
 
 -- the field of a word: the rest, then the low bits
-abbrev pub fieldIn : Form → ℕ → ℕ
-fieldIn f w = w / 2 ^ f.at % 2 ^ (f.bits - f.low) * 2 ^ f.low + w / 2 ^ 29 % 2 ^ f.low
+abbrev pub field_in : Form → ℕ → ℕ
+field_in f w = w / 2 ^ f.at % 2 ^ (f.bits - f.low) * 2 ^ f.low + w / 2 ^ 29 % 2 ^ f.low
 
 -- a word whose field is clear, with a number below 2 ^ bits in the field
 abbrev pub put_in : Form → ℕ → ℕ → ℕ
 put_in f w v = w + v / 2 ^ f.low * 2 ^ f.at + v % 2 ^ f.low * 2 ^ 29
 
 -- a word with nothing in its field, every other bit as it was
-abbrev pub clearIn : Form → ℕ → ℕ
-clearIn f w = w - put_in f 0 (fieldIn f w)
+abbrev pub clear_in : Form → ℕ → ℕ
+clear_in f w = w - put_in f 0 (field_in f w)

@@ -2,11 +2,11 @@
 use Rattle.std.specs.Prelude.{ℕ, ◌+◌, ◌-◌, ◌*◌, ◌<◌, ◌≤◌}
 use Rattle.arm.specs.Bits.{SignExtend}
 use Rattle.displacements.specs.declared.Form.{Form}
-use Rattle.displacements.specs.Forms.{fieldIn, step}
+use Rattle.displacements.specs.Forms.{field_in, step}
 
 -- the 64 bits of the distance of a word
-abbrev pub offsetIn : Form → ℕ → ℕ
-offsetIn f w = SignExtend (f.bits + f.scale) (fieldIn f w * step f)
+abbrev pub offset_in : Form → ℕ → ℕ
+offset_in f w = SignExtend (f.bits + f.scale) (field_in f w * step f)
 
 -- the rule of the table: the two parts of the field do not meet, and end in the word; a distance has fewer than 64 bits
 pub record Sound (f : Form) : Type 0 where

@@ -3,7 +3,7 @@ use Rattle.std.specs.Prelude.{◌≡◌, ℕ, ◌%◌, ◌<◌, ◌≤◌, List,
 use Rattle.words.specs.Said.{Said, ok, no}
 use Rattle.forms.specs.Form.{Formed}
 use Rattle.displacements.specs.declared.Form.{Form}
-use Rattle.displacements.specs.Forms.{form_of, fieldIn, put_in, step, least, greatest}
+use Rattle.displacements.specs.Forms.{form_of, field_in, put_in, step, least, greatest}
 use Rattle.displacements.specs.Answer.{steps_of}
 
 -- a format there is, and a base of its form
@@ -13,7 +13,7 @@ pub record Based (n b : ℕ) : Type 0 where
 
 -- no bit of the field is set
 abbrev pub Free : Form → ℕ → Type 0
-Free f b = fieldIn f b ≡ 0
+Free f b = field_in f b ≡ 0
 
 abbrev pub OnStep : Form → ℤ → Type 0
 OnStep f d = unsigned_abs d % step f ≡ 0

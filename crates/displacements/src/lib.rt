@@ -1,17 +1,19 @@
 // Module 7: a signed distance in bytes in the field of a branch, an ADR, an ADRP or an LDR literal, and back.
+#![tactic(auto)]
+
 ghost use Rattle.std.specs.Prelude.{◌≡◌, ◌^◌, ◌<◌};
 ghost use Rattle.words.specs.Answer.{said, made};
 ghost use Rattle.words.specs.Listed.{packed};
 ghost use Rattle.writers.specs.Put.{put_of};
-ghost use Rattle.displacements.specs.Forms.{form_of, fieldIn, put_in, clearIn};
-ghost use Rattle.displacements.specs.Answer.{placeSaid, dispSaid, readSaid, distanceSaid};
-ghost use Rattle.displacements.specs.Private.{offsetIn, Sound};
+ghost use Rattle.displacements.specs.Forms.{form_of, field_in, put_in, clear_in};
+ghost use Rattle.displacements.specs.Answer.{place_said, disp_said, read_said, distance_said};
+ghost use Rattle.displacements.specs.Private.{offset_in, Sound};
 
 use words::{ByteDistance, Opc, Place, Refusal, Worded, Written};
 
 // A format: distances in steps of 2 ^ scale bytes, in a field of `bits` bits, of which the low ones, `low` in number, stand at bit 29 of the
 // word and the rest at bit `at`.
-#[derive(Drop)]
+#[derive(Clone, Copy)]
 struct Form {
     scale: u32,
     bits: u32,
@@ -20,7 +22,7 @@ struct Form {
 }
 
 // What the reader answers.
-#[derive(Drop)]
+#[derive(Clone, Copy)]
 pub enum DistanceAnswer {
     Distance(ByteDistance),
     NoDistance(Refusal),
@@ -56,7 +58,7 @@ fn form_of(format: u32) -> Form
 // The field of a word, its low bits and the rest put together.
 fn field_of(f: Form, w: Opc) -> u64
     requires { Sound f }
-    ensures { result ≡ fieldIn f w.0 }
+    ensures { result ≡ field_in f w.0 }
 {
     let x = w.0 as u64;
     (words::low_bits(x >> f.at, f.bits - f.low) << f.low) + words::low_bits(x >> 29, f.low)
@@ -64,7 +66,7 @@ fn field_of(f: Form, w: Opc) -> u64
 
 // The base, whose field is clear, with v in the field.
 fn put_field(f: Form, base: Opc, v: u64) -> Opc
-    requires { Sound f × (fieldIn f base.0 ≡ 0) × (v < 2 ^ f.bits) }
+    requires { Sound f × (field_in f base.0 ≡ 0) × (v < 2 ^ f.bits) }
     ensures { result.0 ≡ put_in f base.0 v }
 {
     let b = base.0 as u64;
@@ -75,7 +77,7 @@ fn put_field(f: Form, base: Opc, v: u64) -> Opc
 // A word with its field clear.
 fn clear_field(f: Form, w: Opc) -> Opc
     requires { Sound f }
-    ensures { result.0 ≡ clearIn f w.0 }
+    ensures { result.0 ≡ clear_in f w.0 }
 {
     let held = put_field(f, Opc(0), field_of(f, w));
     Opc(w.0 - held.0)
@@ -83,7 +85,7 @@ fn clear_field(f: Form, w: Opc) -> Opc
 
 // The same at any format. From 6 on there is none, and no field.
 pub fn clear_disp(format: u32, word: Opc) -> Opc
-    ensures { result.0 ≡ clearIn (form_of format) word.0 }
+    ensures { result.0 ≡ clear_in (form_of format) word.0 }
 {
     if 5 < format {
         return word;
@@ -94,7 +96,7 @@ pub fn clear_disp(format: u32, word: Opc) -> Opc
 // The word of a base and a distance at a format: 6, 4, 5.
 fn place(f: Form, base: Opc, distance: ByteDistance) -> Worded
     requires { Sound f }
-    ensures { made result ≡ packed (placeSaid f base.0 distance.0) }
+    ensures { made result ≡ packed (place_said f base.0 distance.0) }
 {
     let x = words::bits_of(distance.0);
     let width = f.bits + f.scale;
@@ -114,7 +116,7 @@ fn place(f: Form, base: Opc, distance: ByteDistance) -> Worded
 
 // The word of a base and a distance, by value: 7, 11, 6, 4, 5.
 pub fn disp_word(format: u32, base: Opc, distance: ByteDistance) -> Worded
-    ensures { made result ≡ packed (dispSaid format base.0 distance.0) }
+    ensures { made result ≡ packed (disp_said format base.0 distance.0) }
 {
     if 5 < format {
         return Worded::Not(Refusal::Unknown);
@@ -133,7 +135,7 @@ pub fn emit_disp_imm(
     base: Opc,
     distance: ByteDistance,
 ) -> Written
-    ensures { (said result, words.new) ≡ put_of words.old at (dispSaid format base.0 distance.0) }
+    ensures { (said result, words.new) ≡ put_of words.old at (disp_said format base.0 distance.0) }
 {
     writers::put(words, at, disp_word(format, base, distance))
 }
@@ -141,7 +143,7 @@ pub fn emit_disp_imm(
 // The field, times the step, with its top bit copied up to bit 63.
 fn offset_of(f: Form, w: Opc) -> u64
     requires { Sound f }
-    ensures { result ≡ offsetIn f w.0 }
+    ensures { result ≡ offset_in f w.0 }
 {
     let width = f.bits + f.scale;
     let v = field_of(f, w) << f.scale;
@@ -154,7 +156,7 @@ fn offset_of(f: Form, w: Opc) -> u64
 
 // The distance of any word, of the format's form or not: 7.
 pub fn read_disp(word: Opc, format: u32) -> DistanceAnswer
-    ensures { distanceSaid result ≡ readSaid word.0 format }
+    ensures { distance_said result ≡ read_said word.0 format }
 {
     if 5 < format {
         return DistanceAnswer::NoDistance(Refusal::Unknown);

@@ -1,23 +1,23 @@
 -- Each public entry's contract allows one answer. Assumes nothing.
 use mathlib.Core.Path.{◌≡◌, refl, ap}
-use Rattle.words.proofs.Answers.{all_said, answered, refusal-back}
+use Rattle.words.proofs.Answers.{all_said, answered, refusal_back}
 use Rattle.words.proofs.Contracts.{OneAnswer, one_answer}
 use Rattle.forms.specs.declared.FormAnswer.{FormAnswer}
 use Rattle.forms.specs.declared.FormAnswer.TheVariants.{OfForm, NoForm}
-use Rattle.forms.specs.Form.{ofFormSaid}
-use Rattle.forms.proofs.of_form.Reads as of-form
-use Rattle.forms.proofs.has_form.Reads as has-form
+use Rattle.forms.specs.Form.{of_form_said}
+use Rattle.forms.proofs.of_form.Reads as of_form
+use Rattle.forms.proofs.has_form.Reads as has_form
 
-pub of-form-determined : OneAnswer of-form.Post
-of-form-determined k a r s x y p q = one_answer p q
+pub of_form_determined : OneAnswer of_form.Post
+of_form_determined k a r s x y p q = one_answer p q
 
 -- what the answer says is all of it
-form-back : (r : FormAnswer) → answered OfForm NoForm (ofFormSaid r) ≡ r
-form-back (OfForm b) = refl
-form-back (NoForm r) = ap NoForm (refusal-back r)
+form_back : (r : FormAnswer) → answered OfForm NoForm (of_form_said r) ≡ r
+form_back (OfForm b) = refl
+form_back (NoForm r) = ap NoForm (refusal_back r)
 
-pub form-all : (r s : FormAnswer) → ofFormSaid r ≡ ofFormSaid s → r ≡ s
-form-all = all_said ofFormSaid (answered OfForm NoForm) form-back
+pub form_all : (r s : FormAnswer) → of_form_said r ≡ of_form_said s → r ≡ s
+form_all = all_said of_form_said (answered OfForm NoForm) form_back
 
-pub has-form-determined : OneAnswer has-form.Post
-has-form-determined k a r s x y p q = form-all r s (one_answer p q)
+pub has_form_determined : OneAnswer has_form.Post
+has_form_determined k a r s x y p q = form_all r s (one_answer p q)

@@ -4,17 +4,17 @@ use mathlib.Core.Bool.{true, false}
 use mathlib.Core.List.{[], ◌∷◌}
 use Rattle.arm.proofs.Worked.{Worked}
 use Rattle.words.specs.Said.{ok, no}
-use Rattle.forms.specs.Form.{hasForm, formSaid}
+use Rattle.forms.specs.Form.{is_of_form, form_said}
 
 pub forms-right :
     Worked
-    ((formSaid 0 0x17FFFFFF, ok true)  -- whatever the field holds
-    ∷ (formSaid 1 0x17FFFFFF, ok false)
-    ∷ (formSaid 1 0x54FFFFCF, ok true)
-    ∷ (formSaid 1 0xB5FFFFFE, ok true)
-    ∷ (formSaid 5 0x9C00009F, ok true)
-    ∷ (formSaid 5 0xDC00009F, ok false)
-    ∷ (formSaid 6 0x14000000, no 7)
+    ((form_said 0 0x17FFFFFF, ok true)  -- whatever the field holds
+    ∷ (form_said 1 0x17FFFFFF, ok false)
+    ∷ (form_said 1 0x54FFFFCF, ok true)
+    ∷ (form_said 1 0xB5FFFFFE, ok true)
+    ∷ (form_said 5 0x9C00009F, ok true)
+    ∷ (form_said 5 0xDC00009F, ok false)
+    ∷ (form_said 6 0x14000000, no 7)
     ∷ [])
-unfolding hasForm
+unfolding is_of_form
 forms-right = refl

@@ -1,13 +1,15 @@
 // Module 7, request h of document 02: whether a word is an instruction of a displacement format.
+#![tactic(auto)]
+
 ghost use Rattle.std.specs.Prelude.{◌≡◌, eqb};
 ghost use Rattle.std.specs.Int.Bits.{bit_and};
-ghost use Rattle.forms.specs.Form.{hasForm, formSaid, ofFormSaid};
+ghost use Rattle.forms.specs.Form.{is_of_form, form_said, of_form_said};
 ghost use Rattle.forms.specs.Private.{fixed_of};
 
 use words::{Opc, Refusal};
 
 // The fixed bits of a format's instructions: those under one mask, or those under another.
-#[derive(Drop)]
+#[derive(Clone, Copy)]
 struct Fixed {
     mask: u32,
     bits: u32,
@@ -16,7 +18,7 @@ struct Fixed {
 }
 
 // What the test at any format answers.
-#[derive(Drop)]
+#[derive(Clone, Copy)]
 pub enum FormAnswer {
     OfForm(bool),
     NoForm(Refusal),
@@ -59,7 +61,7 @@ fn under(w: Opc, mask: u32, bits: u32) -> bool
 
 // Whether a word has the fixed bits of an instruction of a format. From 6 on there is no format.
 pub fn of_form(format: u32, w: Opc) -> bool
-    ensures { result ≡ hasForm format w.0 }
+    ensures { result ≡ is_of_form format w.0 }
 {
     let f = fixed_of(format);
     // The literals that Arm leaves unallocated are of no format.
@@ -71,7 +73,7 @@ pub fn of_form(format: u32, w: Opc) -> bool
 
 // The same, where a format that there is not is told: 7.
 pub fn has_form(format: u32, word: Opc) -> FormAnswer
-    ensures { ofFormSaid result ≡ formSaid format word.0 }
+    ensures { of_form_said result ≡ form_said format word.0 }
 {
     if 5 < format {
         return FormAnswer::NoForm(Refusal::Unknown);

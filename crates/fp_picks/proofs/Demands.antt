@@ -5,13 +5,13 @@ use Rattle.words.specs.Said.{Said, ok, no}
 use Rattle.words.specs.Bit.{bit_of}
 use Rattle.simd.specs.Kinds.{Vec16, Vec64, Vec128, none, H, D, within}
 use Rattle.simd.proofs.Laws.{either, second, inside, last}
-use Rattle.fp_picks.specs.Pick.{row_at, word_of, scalarOf, vectorOf, pick_of}
+use Rattle.fp_picks.specs.Pick.{row_at, word_of, scalar_of, vector_of, pick_of}
 
 -- "The unused row number is not looked at", nor the unused base
 module _ (kind sbase srow sbase' srow' vbase vrow vbase' vrow' : ℕ) where
-  pub scalar-only : pick_of kind none sbase srow vbase vrow ≡ pick_of kind none sbase srow vbase' vrow'
+  pub scalar_only : pick_of kind none sbase srow vbase vrow ≡ pick_of kind none sbase srow vbase' vrow'
   unfolding pick_of
-  scalar-only = refl
+  scalar_only = refl
 
   pub vector-only :
       (element : ℕ) → (element ≡ none → ⊥)
@@ -23,7 +23,7 @@ module _ (kind sbase srow sbase' srow' vbase vrow vbase' vrow' : ℕ) where
 pub zero-at-vec128 :
     (element sbase srow vrow : ℕ) → H ≤ element → element ≤ D → vrow ≤ 5 → bit_of (row_at vrow).sizes (element - H) ≡ true
     → pick_of Vec128 element sbase srow 0 vrow ≡ no 10
-unfolding pick_of vectorOf word_of
+unfolding pick_of vector_of word_of
 zero-at-vec128 element sbase srow vrow first last few has =
     simp (
       le-ltb 7 element (omega arith),
@@ -38,27 +38,27 @@ abbrev pub PickFair : ℕ → Said (ℕ × ℕ) → Type 0
 PickFair base (ok p) = (0 < base) × (p.1 < 3)
 PickFair base (no n) = (n ≡ 7) ⊎ (n ≡ 3) ⊎ (n ≡ 10)
 
-word-fair : (n size base word : ℕ) → size < 3 → PickFair base (word_of n size base word)
+word_fair : (n size base word : ℕ) → size < 3 → PickFair base (word_of n size base word)
 unfolding word_of
-word-fair n size base word h =
+word_fair n size base word h =
     either (PickFair base) (bit_of (row_at n).sizes size) _ _
     (λ t. either (PickFair base) (eqb base 0) _ _ (λ z. inr (inr refl)) (λ z. (omega (arith, eqb-false base 0 z), h)))
     (λ t. inr (inl refl))
 
-scalar-fair : (kind base n : ℕ) → PickFair base (scalarOf kind base n)
-unfolding scalarOf
-scalar-fair kind base n =
+scalar_fair : (kind base n : ℕ) → PickFair base (scalar_of kind base n)
+unfolding scalar_of
+scalar_fair kind base n =
     either (PickFair base) (ltb 5 n) _ _ (λ h. inl refl)
     (λ h. either (PickFair base) (within Vec16 Vec64 kind) _ _
-    (λ w. word-fair n (kind - Vec16) base base (omega (arith, last Vec16 Vec64 kind w)))
+    (λ w. word_fair n (kind - Vec16) base base (omega (arith, last Vec16 Vec64 kind w)))
     (λ w. inr (inl refl)))
 
-vector-fair : (kind element base n : ℕ) → PickFair base (vectorOf kind element base n)
-unfolding vectorOf
-vector-fair kind element base n =
+vector_fair : (kind element base n : ℕ) → PickFair base (vector_of kind element base n)
+unfolding vector_of
+vector_fair kind element base n =
     either (PickFair base) (ltb 5 n) _ _ (λ h. inl refl)
     (λ h. either (PickFair base) (within Vec64 Vec128 kind && within H D element) _ _
-    (λ w. word-fair n (element - H) base _ (omega (arith, last H D element (second (within Vec64 Vec128 kind) (within H D element) w))))
+    (λ w. word_fair n (element - H) base _ (omega (arith, last H D element (second (within Vec64 Vec128 kind) (within H D element) w))))
     (λ w. inr (inl refl)))
 
 known : (base : ℕ) (k e : Bool) (a : Said (ℕ × ℕ)) → PickFair base a → PickFair base (cond k (no 7) (cond e (no 7) a))
@@ -72,6 +72,6 @@ unfolding pick_of
 pick-fair kind element sbase srow vbase vrow = by (eqb element none)
   where
     by : (t : Bool) → PickFair (cond t sbase vbase)
-        (cond (ltb 7 kind) (no 7) (cond (ltb 7 element) (no 7) (cond t (scalarOf kind sbase srow) (vectorOf kind element vbase vrow))))
-    by true = known sbase (ltb 7 kind) (ltb 7 element) _ (scalar-fair kind sbase srow)
-    by false = known vbase (ltb 7 kind) (ltb 7 element) _ (vector-fair kind element vbase vrow)
+        (cond (ltb 7 kind) (no 7) (cond (ltb 7 element) (no 7) (cond t (scalar_of kind sbase srow) (vector_of kind element vbase vrow))))
+    by true = known sbase (ltb 7 kind) (ltb 7 element) _ (scalar_fair kind sbase srow)
+    by false = known vbase (ltb 7 kind) (ltb 7 element) _ (vector_fair kind element vbase vrow)

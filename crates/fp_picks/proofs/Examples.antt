@@ -6,7 +6,7 @@ use Rattle.arm.proofs.Worked.{Worked}
 use Rattle.words.specs.Bit.{bit_of}
 use Rattle.words.specs.Said.{ok, no}
 use Rattle.simd.specs.Kinds.{Vec16, Vec64, Vec128, none, H, D, within}
-use Rattle.fp_picks.specs.Pick.{row_at, word_of, scalarOf, vectorOf, pick_of}
+use Rattle.fp_picks.specs.Pick.{row_at, word_of, scalar_of, vector_of, pick_of}
 
 -- ---- what is refused
 
@@ -24,7 +24,7 @@ pub refused :
     ∷ (pick_of 7 7 0 0 0x0E20D400 4, no 3)
     ∷ (pick_of 5 3 0 0 0x0E20D400 4, no 3)
     ∷ [])
-unfolding pick_of scalarOf vectorOf word_of
+unfolding pick_of scalar_of vector_of word_of
 refused = refl
 
 -- ---- what is picked. Xor and or by binary digits compute on words
@@ -56,33 +56,33 @@ word n size base w t z hx hw =
 
 scalar : (kind n base vbase vrow : ℕ) → ltb 7 kind ≡ false → ltb 5 n ≡ false → within Vec16 Vec64 kind ≡ true
     → pick_of kind none base n vbase vrow ≡ word_of n (kind - Vec16) base base
-unfolding pick_of scalarOf
+unfolding pick_of scalar_of
 scalar kind n base vbase vrow a b c = simp (a, b, c)
 
 vector : (kind element n base w sbase srow : ℕ) → ltb 7 kind ≡ false → ltb 7 element ≡ false → eqb element none ≡ false → ltb 5 n ≡ false
     → within Vec64 Vec128 kind ≡ true → within H D element ≡ true → cond (eqb kind Vec128) (bit_or base (2 ^ 30)) base ≡ w
     → pick_of kind element sbase srow base n ≡ word_of n (element - H) base w
-unfolding pick_of vectorOf
+unfolding pick_of vector_of
 vector kind element n base w sbase srow a b c d e f g = simp (a, b, c, d, e, f, g)
 
-with-30 : (base : ℕ) → base < 2 ^ 32 → bit_or base (2 ^ 30) ≡ or base (2 ^ 30)
-with-30 base h = by_digits max bit_or refl or_step 32 base (2 ^ 30) h (omega arith)
+with_30 : (base : ℕ) → base < 2 ^ 32 → bit_or base (2 ^ 30) ≡ or base (2 ^ 30)
+with_30 base h = by_digits max bit_or refl or_step 32 base (2 ^ 30) h (omega arith)
 
 -- fadd s, d
-pub fadd-s : pick_of 5 0 0x1E202800 0 0 0 ≡ ok (0x1E202800, 1)
-fadd-s = scalar 5 0 0x1E202800 0 0 refl refl refl ∙ word 0 1 0x1E202800 0x1E202800 refl refl (omega arith) (omega arith)
+pub fadd_s : pick_of 5 0 0x1E202800 0 0 0 ≡ ok (0x1E202800, 1)
+fadd_s = scalar 5 0 0x1E202800 0 0 refl refl refl ∙ word 0 1 0x1E202800 0x1E202800 refl refl (omega arith) (omega arith)
 
-pub fadd-d : pick_of 6 0 0x1E202800 0 0 0 ≡ ok (0x1E602800, 2)
-fadd-d = scalar 6 0 0x1E202800 0 0 refl refl refl ∙ word 0 2 0x1E202800 0x1E202800 refl refl (omega arith) (omega arith)
+pub fadd_d : pick_of 6 0 0x1E202800 0 0 0 ≡ ok (0x1E602800, 2)
+fadd_d = scalar 6 0 0x1E202800 0 0 refl refl refl ∙ word 0 2 0x1E202800 0x1E202800 refl refl (omega arith) (omega arith)
 
 -- row 3 at D has the word 0, as document 01 and the Rust have it: Vec128, D gives 4EA0F820, which is fabs v0.4s; Arm's fabs v0.2d is 4EE0F820
-pub row-3-at-d : pick_of 7 4 0 0 0x0EA0F820 3 ≡ ok (0x4EA0F820, 2)
-row-3-at-d =
-    vector 7 4 3 0x0EA0F820 0x4EA0F820 0 0 refl refl refl refl refl refl (with-30 0x0EA0F820 (omega arith))
+pub row_3_at_d : pick_of 7 4 0 0 0x0EA0F820 3 ≡ ok (0x4EA0F820, 2)
+row_3_at_d =
+    vector 7 4 3 0x0EA0F820 0x4EA0F820 0 0 refl refl refl refl refl refl (with_30 0x0EA0F820 (omega arith))
     ∙ word 3 2 0x0EA0F820 0x4EA0F820 refl refl (omega arith) (omega arith)
 
 -- Vec64 with element D is accepted: 0E60D400, which Arm leaves unallocated
-pub vec64-d : pick_of 6 4 0 0 0x0E20D400 4 ≡ ok (0x0E60D400, 2)
-vec64-d =
+pub vec64_d : pick_of 6 4 0 0 0x0E20D400 4 ≡ ok (0x0E60D400, 2)
+vec64_d =
     vector 6 4 4 0x0E20D400 0x0E20D400 0 0 refl refl refl refl refl refl refl
     ∙ word 4 2 0x0E20D400 0x0E20D400 refl refl (omega arith) (omega arith)

@@ -9,9 +9,9 @@ use Rattle.fp_picks.specs.declared.PickAnswer.TheVariants.{Picked, NoPick}
 use Rattle.simd.specs.Kinds.{Vec16, Vec64, Vec128, none, H, D, within}
 
 -- "the word and the size, 0, 1 or 2"
-abbrev pub pickSaid : PickAnswer → Said (ℕ × ℕ)
-pickSaid (Picked w size) = ok (w.0, size)
-pickSaid (NoPick r) = no (number_of r)
+abbrev pub pick_said : PickAnswer → Said (ℕ × ℕ)
+pick_said (Picked w size) = ok (w.0, size)
+pick_said (NoPick r) = no (number_of r)
 
 -- "the six rows": the sizes, H 1, S 2, D 4; the words at H, S, D
 abbrev row : ℕ → ℕ → ℕ → ℕ → FpRow
@@ -39,15 +39,15 @@ word_of n size base word =
     (no 3)
 
 -- "Scalar (element none): Vec16, Vec32, Vec64; row word xor base"
-unfoldable pub scalarOf : ℕ → ℕ → ℕ → Said (ℕ × ℕ)
-scalarOf kind base n =
+unfoldable pub scalar_of : ℕ → ℕ → ℕ → Said (ℕ × ℕ)
+scalar_of kind base n =
     cond (nat_lt 5 n) (no 7)
     (cond (within Vec16 Vec64 kind) (word_of n (kind - Vec16) base base)
     (no 3))
 
 -- "Vector: Vec64 or Vec128 with H, S, D; bit 30 is or-ed into the base for Vec128, then xor. A zero base is tested before bit 30"
-unfoldable pub vectorOf : ℕ → ℕ → ℕ → ℕ → Said (ℕ × ℕ)
-vectorOf kind element base n =
+unfoldable pub vector_of : ℕ → ℕ → ℕ → ℕ → Said (ℕ × ℕ)
+vector_of kind element base n =
     cond (nat_lt 5 n) (no 7)
     (cond (within Vec64 Vec128 kind && within H D element)
     (word_of n (element - H) base (cond (kind == Vec128) (bit_or base (2 ^ 30)) base))
@@ -58,4 +58,4 @@ unfoldable pub pick_of : ℕ → ℕ → ℕ → ℕ → ℕ → ℕ → Said (�
 pick_of kind element sbase srow vbase vrow =
     cond (nat_lt 7 kind) (no 7)
     (cond (nat_lt 7 element) (no 7)
-    (cond (element == none) (scalarOf kind sbase srow) (vectorOf kind element vbase vrow)))
+    (cond (element == none) (scalar_of kind sbase srow) (vector_of kind element vbase vrow)))

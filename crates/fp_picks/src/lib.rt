@@ -1,7 +1,9 @@
 // Module 9: the opcode word of a floating-point instruction, scalar or vector, at the size of its registers or elements.
 // Kinds and elements have the numbers that the crate simd lists.
+#![tactic(auto)]
+
 ghost use Rattle.std.specs.Prelude.{◌≡◌, ◌<◌};
-ghost use Rattle.fp_picks.specs.Pick.{pickSaid, row_at, word_of, scalarOf, vectorOf, pick_of};
+ghost use Rattle.fp_picks.specs.Pick.{pick_said, row_at, word_of, scalar_of, vector_of, pick_of};
 
 use words::{Opc, Refusal};
 
@@ -13,14 +15,14 @@ const VEC64: u32 = 6;
 const H: u32 = 2;
 
 // The word, and the size: 0 H, 1 S, 2 D.
-#[derive(Drop)]
+#[derive(Clone, Copy)]
 pub enum PickAnswer {
     Picked(Opc, u32),
     NoPick(Refusal),
 }
 
 // A row: the sizes that it has, H 1, S 2, D 4, and the word of each.
-#[derive(Drop)]
+#[derive(Clone, Copy)]
 struct FpRow {
     sizes: u32,
     xor: [u32; 3],
@@ -64,7 +66,7 @@ fn fp_row(row: u32) -> FpRow
 // The row's word for the size, and the opcode word. The base is tested without bit 30.
 fn row_word(row: u32, size: u32, base: Opc, word: Opc) -> PickAnswer
     requires { (row < 6) × (size < 3) }
-    ensures { pickSaid result ≡ word_of row size base.0 word.0 }
+    ensures { pick_said result ≡ word_of row size base.0 word.0 }
 {
     let r = fp_row(row);
     if !words::bit_test(r.sizes, size) {
@@ -79,7 +81,7 @@ fn row_word(row: u32, size: u32, base: Opc, word: Opc) -> PickAnswer
 
 // The register's kind gives the size: Vec16, Vec32, Vec64.
 fn pick_scalar(kind: u32, op: Opc, row: u32) -> PickAnswer
-    ensures { pickSaid result ≡ scalarOf kind op.0 row }
+    ensures { pick_said result ≡ scalar_of kind op.0 row }
 {
     if row > 5 {
         return PickAnswer::NoPick(Refusal::Unknown);
@@ -93,7 +95,7 @@ fn pick_scalar(kind: u32, op: Opc, row: u32) -> PickAnswer
 
 // The element gives the size, H, S, D, and the register's kind bit 30: Vec64, Vec128.
 fn pick_vector(kind: u32, element: u32, op: Opc, row: u32) -> PickAnswer
-    ensures { pickSaid result ≡ vectorOf kind element op.0 row }
+    ensures { pick_said result ≡ vector_of kind element op.0 row }
 {
     if row > 5 {
         return PickAnswer::NoPick(Refusal::Unknown);
@@ -118,7 +120,7 @@ pub fn pick_fp_opcode(
     v_op: Opc,
     v_hf: u32,
 ) -> PickAnswer
-    ensures { pickSaid result ≡ pick_of kind element s_op.0 s_hf v_op.0 v_hf }
+    ensures { pick_said result ≡ pick_of kind element s_op.0 s_hf v_op.0 v_hf }
 {
     if kind > 7 {
         return PickAnswer::NoPick(Refusal::Unknown);

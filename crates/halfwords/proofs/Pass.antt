@@ -26,9 +26,9 @@ pub up : (n v : ℕ) {left : ℕ} → left ≡ above n v → left / 2 ^ 16 ≡ a
 up n v left = let e : 16 * (n + 1) ≡ 16 * n + 16 = omega arith in rw (left, e, ← shr-shr v (16 * n) 16)
 
 -- after four turns it has the count
-pub all-four : (f v : ℕ) {n c : ℕ} → n ≡ 4 → c ≡ among f n v → c ≡ count f v
+pub all_four : (f v : ℕ) {n c : ℕ} → n ≡ 4 → c ≡ among f n v → c ≡ count f v
 unfolding count
-all-four f v n c = rw (c, n) (omega arith)
+all_four f v n c = rw (c, n) (omega arith)
 
 -- FFFF alone carries with 1 more
 pub carries : (h : ℕ) → h < 2 ^ 16 → (h + 1) / 2 ^ 16 ≡ same 0xFFFF h

@@ -1,9 +1,11 @@
 // The four 16-bit halfwords of a 64-bit value, of which modules 5 and 6 make moves, and how many of them are zero and how many FFFF.
+#![tactic(auto)]
+
 ghost use Rattle.std.specs.Prelude.{◌≡◌, ◌^◌, ◌<◌};
 ghost use Rattle.halfwords.specs.Halfwords.{count, Halved, Tested, Counted};
 
 // The four halfwords of a value, lowest first.
-#[derive(Drop)]
+#[derive(Clone, Copy)]
 pub struct Halves(pub u32, pub u32, pub u32, pub u32);
 
 pub fn cut(imm: u64) -> Halves
@@ -33,7 +35,7 @@ fn is_ones(h: u32) -> usize
 }
 
 // How many halfwords are zero, and how many are FFFF.
-#[derive(Drop)]
+#[derive(Clone, Copy)]
 pub struct Counts {
     pub zeros: usize,
     pub ones: usize,

@@ -12,24 +12,24 @@ use lib.Seq.{slice}
 use Rattle.arm.specs.MoveWide.{Regs, write, run}
 use Rattle.words.specs.Said.{Said, ok, no}
 use Rattle.words.specs.Answer.{IsNumber}
-use Rattle.words.specs.Place.{posOf, placeAt, Aligned}
+use Rattle.words.specs.Place.{pos_of, place_at, Aligned}
 use Rattle.words.specs.declared.Place.{Place}
-use Rattle.words.proofs.Answers.{Alone, alone-word}
-use Rattle.writers.specs.Put.{words_in, putBytesOf}
+use Rattle.words.proofs.Answers.{Alone, alone_word}
+use Rattle.writers.specs.Put.{words_in, put_bytes_of}
 use Rattle.writers.proofs.Writes.{words_back}
-use Rattle.moves.specs.Moves.{movSaid}
-use Rattle.moves.proofs.Demands.{mov-said}
-use Rattle.patchable_moves.specs.Patchable.{patchSaid}
-use Rattle.patchable_moves.proofs.Demands.{patch-said}
+use Rattle.moves.specs.Moves.{mov_said}
+use Rattle.moves.proofs.Demands.{mov_said_lem}
+use Rattle.patchable_moves.specs.Patchable.{patch_said}
+use Rattle.patchable_moves.proofs.Demands.{patch_said_lem}
 use Rattle.disp_targets.specs.Target.{carrying}
-use Rattle.host.specs.Number.{refusalIn, Reads, countedTo, wordsFrom, word_at}
-use Rattle.host.proofs.Demands.{Sane, Low, low-none, Called, CalledTo, plainly, reads-to, stands-to, fifteen, move-sane, patchable-sane}
+use Rattle.host.specs.Number.{refusal_in, Reads, counted_to, words_from, word_at}
+use Rattle.host.proofs.Demands.{Sane, Low, low_none, Called, CalledTo, plainly, reads_to, stands_to, fifteen, move_sane, patchable_sane}
 use Rattle.host.proofs.vaimalofo_move.Reads as move
-use Rattle.host.proofs.vaimalofo_patchable_move.Reads as patchable-move
+use Rattle.host.proofs.vaimalofo_patchable_move.Reads as patchable_move
 
 -- a refusal is one of the refusals' numbers, and 0 where there is none
 abbrev pub Refusals : ℕ → Type 0
-Refusals n = (refusalIn n ≡ 0) ⊎ IsNumber (refusalIn n)
+Refusals n = (refusal_in n ≡ 0) ⊎ IsNumber (refusal_in n)
 
 pub known : (n : ℕ) (a : Said ℤ) → Reads n a → Refusals n
 known n (ok v) r = inl r.0
@@ -39,28 +39,28 @@ known n (no m) r = inr (subst IsNumber (sym r.1) r.0)
 
 module _ (l : List ℕ) (at : Place) (n : ℕ) (l' : List ℕ) (x : Said (List ℕ)) (h : Sane x) where
   -- the words asked for are those that a host finds
-  pub found-to : (low : Option ℕ) → Low low → CalledTo l at n l' low x → refusalIn n ≡ 0 → x ≡ ok (wordsFrom n (posOf at) l')
-  found-to low f e z =
-      let s = stands-to l at n l' low x f h e z in
-      s.1 ∙ ap ok (sym (ap (λ (k : ℕ). words_in (slice (posOf at * 4) ((posOf at + k) * 4) l')) s.2.count ∙ ap words_in s.2.words ∙ words_back s.0))
+  pub found_to : (low : Option ℕ) → Low low → CalledTo l at n l' low x → refusal_in n ≡ 0 → x ≡ ok (words_from n (pos_of at) l')
+  found_to low f e z =
+      let s = stands_to l at n l' low x f h e z in
+      s.1 ∙ ap ok (sym (ap (λ (k : ℕ). words_in (slice (pos_of at * 4) ((pos_of at + k) * 4) l')) s.2.count ∙ ap words_in s.2.words ∙ words_back s.0))
 
-  pub refusal-to : (low : Option ℕ) → Low low → CalledTo l at n l' low x → Refusals n
-  refusal-to low f e = known n (countedTo at (carrying low (putBytesOf l at x).0)) (reads-to l at n l' low x f h e)
+  pub refusal_to : (low : Option ℕ) → Low low → CalledTo l at n l' low x → Refusals n
+  refusal_to low f e = known n (counted_to at (carrying low (put_bytes_of l at x).0)) (reads_to l at n l' low x f h e)
 
   module _ (e : Called l at n l' x) where
-    pub found : refusalIn n ≡ 0 → x ≡ ok (wordsFrom n (posOf at) l')
-    found = found-to none low-none (plainly l at n l' x e)
+    pub found : refusal_in n ≡ 0 → x ≡ ok (words_from n (pos_of at) l')
+    found = found_to none low_none (plainly l at n l' x e)
 
     -- one word
-    pub found-one : Alone x → refusalIn n ≡ 0 → x ≡ ok (word_at n (posOf at) l' ∷ [])
-    found-one a z = alone-word x (wordsFrom n (posOf at) l') a (found z)
+    pub found_one : Alone x → refusal_in n ≡ 0 → x ≡ ok (word_at n (pos_of at) l' ∷ [])
+    found_one a z = alone_word x (words_from n (pos_of at) l') a (found z)
 
     pub refusal : Refusals n
-    refusal = refusal-to none low-none (plainly l at n l' x e)
+    refusal = refusal_to none low_none (plainly l at n l' x e)
 
 module _ (k : Lfts 1) (bytes bytes' : Bor (List ℕ)) (base-address position answer : ℕ) where
   abbrev at : Place
-  at = placeAt base-address position
+  at = place_at base-address position
 
   abbrev l : List ℕ
   l = bytes.now
@@ -72,26 +72,26 @@ module _ (k : Lfts 1) (bytes bytes' : Bor (List ℕ)) (base-address position ans
 
   module _ (value register : ℕ)
       (p : move.Post k (bytes, (base-address, (position, (value, (register, tt))))) answer (bytes', (base-address, (position, (value, (register, tt)))))) where
-    pub move-runs : refusalIn answer ≡ 0 → value < 2 ^ 64 → (R : Regs) → run (wordsFrom answer position l') R ≡ some (write R register value)
-    move-runs z v-is R =
-        mov-said value register v-is R (wordsFrom answer position l') (found l at answer l' (movSaid value register) (move-sane value register) p z)
+    pub move_runs : refusal_in answer ≡ 0 → value < 2 ^ 64 → (R : Regs) → run (words_from answer position l') R ≡ some (write R register value)
+    move_runs z v-is R =
+        mov_said_lem value register v-is R (words_from answer position l') (found l at answer l' (mov_said value register) (move_sane value register) p z)
 
-    pub move-refusal : Refusals answer
-    move-refusal = refusal l at answer l' (movSaid value register) (move-sane value register) p
+    pub move_refusal : Refusals answer
+    move_refusal = refusal l at answer l' (mov_said value register) (move_sane value register) p
 
     -- "15 is tested first"
-    pub move-15 : (Aligned at → ⊥) → (answer ≡ 15) × (l' ≡ l)
-    move-15 = fifteen l at answer l' (movSaid value register) p
+    pub move_15 : (Aligned at → ⊥) → (answer ≡ 15) × (l' ≡ l)
+    move_15 = fifteen l at answer l' (mov_said value register) p
 
   module _ (value size register : ℕ)
-      (p : patchable-move.Post k (bytes, (base-address, (position, (value, (size, (register, tt)))))) answer (bytes', (base-address, (position, (value, (size, (register, tt))))))) where
-    pub patchable-move-runs : refusalIn answer ≡ 0 → value < 2 ^ 64 → (R : Regs) → run (wordsFrom answer position l') R ≡ some (write R register (value % 2 ^ size))
-    patchable-move-runs z v-is R =
-        patch-said value size register v-is R (wordsFrom answer position l')
-        (found l at answer l' (patchSaid value size register) (patchable-sane value size register) p z)
+      (p : patchable_move.Post k (bytes, (base-address, (position, (value, (size, (register, tt)))))) answer (bytes', (base-address, (position, (value, (size, (register, tt))))))) where
+    pub patchable_move_runs : refusal_in answer ≡ 0 → value < 2 ^ 64 → (R : Regs) → run (words_from answer position l') R ≡ some (write R register (value % 2 ^ size))
+    patchable_move_runs z v-is R =
+        patch_said_lem value size register v-is R (words_from answer position l')
+        (found l at answer l' (patch_said value size register) (patchable_sane value size register) p z)
 
-    pub patchable-move-refusal : Refusals answer
-    patchable-move-refusal = refusal l at answer l' (patchSaid value size register) (patchable-sane value size register) p
+    pub patchable_move_refusal : Refusals answer
+    patchable_move_refusal = refusal l at answer l' (patch_said value size register) (patchable_sane value size register) p
 
-    pub patchable-move-15 : (Aligned at → ⊥) → (answer ≡ 15) × (l' ≡ l)
-    patchable-move-15 = fifteen l at answer l' (patchSaid value size register) p
+    pub patchable_move_15 : (Aligned at → ⊥) → (answer ≡ 15) × (l' ≡ l)
+    patchable_move_15 = fifteen l at answer l' (patch_said value size register) p

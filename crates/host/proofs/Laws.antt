@@ -9,27 +9,27 @@ use lib.ListN.{length, length-take}
 use Rattle.words.specs.Said.{Said, ok, no}
 use Rattle.words.specs.Answer.{said, made}
 use Rattle.words.specs.Listed.{listed, packed}
-use Rattle.words.specs.Place.{posOf}
-use Rattle.writers.specs.Put.{putBytesOf}
+use Rattle.words.specs.Place.{pos_of}
+use Rattle.writers.specs.Put.{put_bytes_of}
 use Rattle.writers.specs.Says.{unaligned, refused, full, done, PutsBytes}
 use Rattle.words.specs.declared.Place.{Place}
 use Rattle.words.specs.declared.Words.{Words}
 use Rattle.words.specs.declared.Worded.{Worded}
 use Rattle.words.specs.declared.Written.{Written}
 use Rattle.words.proofs.Answers.{Short}
-use Rattle.writers.proofs.Writes.{Answer, bytes-says, bytes-no}
-use Rattle.disp_targets.specs.Target.{targetSaid, low_of, carrying, carried}
-use Rattle.disp_targets.proofs.Targets.{put-target}
-use Rattle.host.specs.Number.{told, counted, hostOf, hostPut, countedTo, hostToOf, hostPutTo, hostTarget}
+use Rattle.writers.proofs.Writes.{Answer, bytes_says, bytes_no}
+use Rattle.disp_targets.specs.Target.{target_said, low_of, carrying, carried}
+use Rattle.disp_targets.proofs.Targets.{put_target_lem}
+use Rattle.host.specs.Number.{told, counted, host_of, host_put, counted_to, host_to_of, host_put_to, host_target}
 use Rattle.host.specs.Private.{Near}
 
 -- words by value are four at most
-list-short : (x : Said Words) → Short (listed x)
-list-short (ok f) = simp length-take (omega arith)
-list-short (no n) = tt
+list_short : (x : Said Words) → Short (listed x)
+list_short (ok f) = simp length-take (omega arith)
+list_short (no n) = tt
 
-put-near : (l : List ℕ) (at : Place) (x : Said (List ℕ)) → Short x → Near at (putBytesOf l at x).0
-put-near l at x h = go (bytes-says l at x)
+put_near : (l : List ℕ) (at : Place) (x : Said (List ℕ)) → Short x → Near at (put_bytes_of l at x).0
+put_near l at x h = go (bytes_says l at x)
   where
     go : {z : Answer} → PutsBytes l at x z → Near at z.0
     go (unaligned o) = tt
@@ -37,30 +37,30 @@ put-near l at x h = go (bytes-says l at x)
     go (full vs a e f) = tt
     go (done vs a e f) = let s : length vs ≤ 4 = subst Short e h in omega arith
 
-module _ (l : List ℕ) (at : Place) (m : Worded) (w : Written) (l' : List ℕ) (put : (said w, l') ≡ putBytesOf l at (listed (made m))) where
+module _ (l : List ℕ) (at : Place) (m : Worded) (w : Written) (l' : List ℕ) (put : (said w, l') ≡ put_bytes_of l at (listed (made m))) where
   pub near : Near at (said w)
-  near = subst (Near at) (sym (ap (λ (k : Answer). k.0) put)) (put-near l at (listed (made m)) (list-short (made m)))
+  near = subst (Near at) (sym (ap (λ (k : Answer). k.0) put)) (put_near l at (listed (made m)) (list_short (made m)))
 
-  pub hosted : {n : ℕ} → n ≡ told (counted at (said w)) → (n, l') ≡ hostPut l at (listed (made m))
-  hosted r = ap (λ (k : ℕ). (k, l')) r ∙ ap (hostOf at) put
+  pub hosted : {n : ℕ} → n ≡ told (counted at (said w)) → (n, l') ≡ host_put l at (listed (made m))
+  hosted r = ap (λ (k : ℕ). (k, l')) r ∙ ap (host_of at) put
 
   -- with the low bits of a target
-  pub hosted-page : {n : ℕ} (k : ℕ) → n ≡ told (countedTo at (carrying (some k) (said w))) → (n, l') ≡ hostPutTo l at (some k) (listed (made m))
-  hosted-page k r = ap (λ (j : ℕ). (j, l')) r ∙ ap (λ (z : Answer). hostToOf at (carried (some k) z)) put
+  pub hosted_page : {n : ℕ} (k : ℕ) → n ≡ told (counted_to at (carrying (some k) (said w))) → (n, l') ≡ host_put_to l at (some k) (listed (made m))
+  hosted_page k r = ap (λ (j : ℕ). (j, l')) r ∙ ap (λ (z : Answer). host_to_of at (carried (some k) z)) put
 
 -- the words by value are those that are asked for
-pub asked : (l : List ℕ) (at : Place) {y : ℕ × List ℕ} {z x : Said (List ℕ)} → y ≡ hostPut l at z → z ≡ x → y ≡ hostPut l at x
-asked l at p e = p ∙ ap (hostPut l at) e
+pub asked : (l : List ℕ) (at : Place) {y : ℕ × List ℕ} {z x : Said (List ℕ)} → y ≡ host_put l at z → z ≡ x → y ≡ host_put l at x
+asked l at p e = p ∙ ap (host_put l at) e
 
 -- ---- a target's words
 
 -- no low bits are the number 0
-pub counted_none : (at : Place) (x : Said Place) → counted at x ≡ countedTo at (carrying none x)
-counted_none at (ok p) = let c = posOf p - posOf at in let e : c ≡ c + 0 * 2 ^ 8 = omega arith in ap (λ (k : ℕ). ok (pos k)) e
+pub counted_none : (at : Place) (x : Said Place) → counted at x ≡ counted_to at (carrying none x)
+counted_none at (ok p) = let c = pos_of p - pos_of at in let e : c ≡ c + 0 * 2 ^ 8 = omega arith in ap (λ (k : ℕ). ok (pos k)) e
 counted_none at (no n) = refl
 
-pub hosted-none : (l : List ℕ) (at : Place) (x : Said (List ℕ)) {y : ℕ × List ℕ} → y ≡ hostPut l at x → y ≡ hostPutTo l at none x
-hosted-none l at x p = let z = putBytesOf l at x in p ∙ ap (λ (s : Said ℤ). (told s, z.1)) (counted_none at z.0)
+pub hosted_none : (l : List ℕ) (at : Place) (x : Said (List ℕ)) {y : ℕ × List ℕ} → y ≡ host_put l at x → y ≡ host_put_to l at none x
+hosted_none l at x p = let z = put_bytes_of l at x in p ∙ ap (λ (s : Said ℤ). (told s, z.1)) (counted_none at z.0)
 
-pub landed : (l : List ℕ) (at : Place) (n b t a : ℕ) → hostTarget l at (carrying (low_of n t) (packed (targetSaid n b t a))) ≡ hostPutTo l at (low_of n t) (targetSaid n b t a)
-landed l at n b t a = ap (hostToOf at) (put-target (putBytesOf l at) (bytes-no l at) n b t a)
+pub landed : (l : List ℕ) (at : Place) (n b t a : ℕ) → host_target l at (carrying (low_of n t) (packed (target_said n b t a))) ≡ host_put_to l at (low_of n t) (target_said n b t a)
+landed l at n b t a = ap (host_to_of at) (put_target_lem (put_bytes_of l at) (bytes_no l at) n b t a)

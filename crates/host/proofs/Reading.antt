@@ -16,32 +16,32 @@ use Rattle.arm.proofs.SignExtends.{double, extend}
 use Rattle.words.specs.Said.{Said, ok, no}
 use Rattle.words.specs.Answer.{IsNumber}
 use Rattle.words.proofs.Answers.{number_fits}
-use Rattle.host.specs.Number.{told, Reads, countIn, lowIn}
+use Rattle.host.specs.Number.{told, Reads, count_in, low_in}
 
 abbrev pub Small : Said ℤ → Type 0
 Small (ok v) = mag v < 2 ^ 55
 Small (no n) = IsNumber n
 
-pub told-reads : (a : Said ℤ) → Small a → Reads (told a) a
-told-reads (ok v) h =
+pub told_reads : (a : Said ℤ) → Small a → Reads (told a) a
+told_reads (ok v) h =
     let up : of_z w64 v * 2 ^ 8 % 2 ^ 64 / 2 ^ 8 ≡ of_z w64 v % 2 ^ 56 = omega arith in
     (omega arith, ap (λ (x : ℕ). to_z w64 (SignExtend 56 x)) up ∙ ap (to_z w64) (extend 56 (omega arith) (omega arith) v h) ∙ to_z-of_z {w = w64} (record { sfits = omega arith }))
-told-reads (no n) h =
+told_reads (no n) h =
     let small = (number_fits h).1 in
     let none : n / 2 ^ 8 ≡ 0 = omega arith in
     (h, omega arith, ap (λ (x : ℕ). to_z w64 (SignExtend 56 x)) none)
 
 -- a count of words and low bits are read apart
-pub told-parts : (n c l : ℕ) → n ≡ told (ok (pos (c + l * 2 ^ 8))) → c ≤ 4 → l < 4096 → (countIn n ≡ c) × (lowIn n ≡ l)
-told-parts n c l e h f =
+pub told_parts : (n c l : ℕ) → n ≡ told (ok (pos (c + l * 2 ^ 8))) → c ≤ 4 → l < 4096 → (count_in n ≡ c) × (low_in n ≡ l)
+told_parts n c l e h f =
     let whole : n ≡ c * 256 + l * 65536 = omega (arith, e) in
     let above : n / 256 ≡ c + l * 256 = omega (arith, whole) in
     let top : n / 65536 ≡ l = omega (arith, whole) in
     (rw above (omega arith), rw top (omega arith))
 
 -- a number of t bits, sign-extended, is read as one from - 2 ^ (t - 1) up to below 2 ^ (t - 1)
-pub extended-mag : (t v : ℕ) → 1 ≤ t → t ≤ 64 → v < 2 ^ t → mag (to_z w64 (SignExtend t v)) < 2 ^ (t - 1)
-extended-mag t v lo hi h = go (ltb v (2 ^ (t - 1))) refl
+pub extended_mag : (t v : ℕ) → 1 ≤ t → t ≤ 64 → v < 2 ^ t → mag (to_z w64 (SignExtend t v)) < 2 ^ (t - 1)
+extended_mag t v lo hi h = go (ltb v (2 ^ (t - 1))) refl
   where
     go : (b : Bool) → ltb v (2 ^ (t - 1)) ≡ b → mag (to_z w64 (cond b v (v + (2 ^ 64 - 2 ^ t)))) < 2 ^ (t - 1)
     go true e =

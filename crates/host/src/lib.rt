@@ -1,16 +1,18 @@
 // The entries for the tool's host: numbers and runs of bytes only. Each answers one number: a refusal's number in its low byte (0: nothing was
 // refused), and in the bits above it, read as signed, the value (0 with a refusal). A base address is that of the run's first word, a multiple of 4; a
 // position counts words; a word is four bytes, low byte first; a tail under four bytes is no room.
+#![tactic(auto)]
+
 ghost use Rattle.std.specs.Prelude.{◌≡◌};
 ghost use Rattle.std.proofs.Math.Option.{some};
 ghost use Rattle.words.specs.Said.{Said};
 ghost use Rattle.words.specs.Answer.{number_of, said, made};
 ghost use Rattle.words.specs.Listed.{list_of, listed};
-ghost use Rattle.words.specs.Place.{placeAt};
-ghost use Rattle.moves.specs.Moves.{movSaid};
-ghost use Rattle.patchable_moves.specs.Patchable.{patchSaid};
-ghost use Rattle.disp_targets.specs.Target.{carrying, wordSaid};
-ghost use Rattle.host.specs.Number.{told, counted, hostPut, countedTo, hostPutTo, hostTarget, yesNo};
+ghost use Rattle.words.specs.Place.{place_at};
+ghost use Rattle.moves.specs.Moves.{mov_said};
+ghost use Rattle.patchable_moves.specs.Patchable.{patch_said};
+ghost use Rattle.disp_targets.specs.Target.{carrying, word_said};
+ghost use Rattle.host.specs.Number.{told, counted, host_put, counted_to, host_put_to, host_target, yes_no};
 ghost use Rattle.host.specs.Private.{Near};
 
 use disp_targets::{Low12, TargetWord};
@@ -25,7 +27,7 @@ pub fn refused(r: Refusal) -> u64
 
 // The place of a base address and a position.
 pub fn place(base: u64, position: usize) -> Place
-    ensures { result ≡ placeAt base position }
+    ensures { result ≡ place_at base position }
 {
     Place {
         base: Address(base),
@@ -46,7 +48,7 @@ fn written(at: Place, w: Written) -> u64
 
 // Words by value, from a place on.
 pub fn put(bytes: &mut [u8], base: u64, position: usize, m: Worded) -> u64
-    ensures { (result, bytes.new) ≡ hostPut bytes.old (placeAt base position) (listed (made m)) }
+    ensures { (result, bytes.new) ≡ host_put bytes.old (place_at base position) (listed (made m)) }
 {
     let at = place(base, position);
     written(at, writers::put_bytes(bytes, at, m))
@@ -55,7 +57,7 @@ pub fn put(bytes: &mut [u8], base: u64, position: usize, m: Worded) -> u64
 // The same with the low bits of a target above the number of words.
 fn written_page(at: Place, w: Written, low: Low12) -> u64
     requires { Near at (said w) }
-    ensures { result ≡ told (countedTo at (carrying (some low.0) (said w))) }
+    ensures { result ≡ told (counted_to at (carrying (some low.0) (said w))) }
 {
     match w {
         Written::Done(p) => ((p.position.0 - at.position.0) * 256) as u64 + low.0 as u64 * 65536,
@@ -64,7 +66,7 @@ fn written_page(at: Place, w: Written, low: Low12) -> u64
 }
 
 fn put_page(bytes: &mut [u8], base: u64, position: usize, f: Words, low: Low12) -> u64
-    ensures { (result, bytes.new) ≡ hostPutTo bytes.old (placeAt base position) (some low.0) (Said.ok (list_of f)) }
+    ensures { (result, bytes.new) ≡ host_put_to bytes.old (place_at base position) (some low.0) (Said.ok (list_of f)) }
 {
     let at = place(base, position);
     written_page(at, writers::put_bytes(bytes, at, Worded::Made(f)), low)
@@ -72,7 +74,7 @@ fn put_page(bytes: &mut [u8], base: u64, position: usize, f: Words, low: Low12) 
 
 // A target's word by value, or its refusal, from a place on.
 pub fn put_target(bytes: &mut [u8], base: u64, position: usize, m: TargetWord) -> u64
-    ensures { (result, bytes.new) ≡ hostTarget bytes.old (placeAt base position) (wordSaid m) }
+    ensures { (result, bytes.new) ≡ host_target bytes.old (place_at base position) (word_said m) }
 {
     match m {
         TargetWord::Word(f) => put(bytes, base, position, Worded::Made(f)),
@@ -83,7 +85,7 @@ pub fn put_target(bytes: &mut [u8], base: u64, position: usize, m: TargetWord) -
 
 // 1 above the low byte, or 0.
 pub fn yes(b: bool) -> u64
-    ensures { result ≡ told (yesNo (Said.ok b)) }
+    ensures { result ≡ told (yes_no (Said.ok b)) }
 {
     if b { 256 } else { 0 }
 }
@@ -97,7 +99,7 @@ pub extern "C" fn vaimalofo_move(
     value: u64,
     register: u32,
 ) -> u64
-    ensures { (result, bytes.new) ≡ hostPut bytes.old (placeAt base_address position) (movSaid value register) }
+    ensures { (result, bytes.new) ≡ host_put bytes.old (place_at base_address position) (mov_said value register) }
 {
     put(
         bytes,
@@ -117,7 +119,7 @@ pub extern "C" fn vaimalofo_patchable_move(
     size: u32,
     register: u32,
 ) -> u64
-    ensures { (result, bytes.new) ≡ hostPut bytes.old (placeAt base_address position) (patchSaid value size register) }
+    ensures { (result, bytes.new) ≡ host_put bytes.old (place_at base_address position) (patch_said value size register) }
 {
     put(
         bytes,

@@ -1,10 +1,12 @@
 // The entries for the tool's host on displacements. Each answers one number, as crates/host says.
+#![tactic(auto)]
+
 ghost use Rattle.std.specs.Prelude.{◌≡◌};
-ghost use Rattle.words.specs.Place.{placeAt, address_of};
-ghost use Rattle.displacements.specs.Answer.{dispSaid, readSaid};
-ghost use Rattle.disp_targets.specs.Target.{targetSaid, low_of};
-ghost use Rattle.forms.specs.Form.{formSaid};
-ghost use Rattle.host.specs.Number.{told, hostPut, hostPutTo, yesNo};
+ghost use Rattle.words.specs.Place.{place_at, address_of};
+ghost use Rattle.displacements.specs.Answer.{disp_said, read_said};
+ghost use Rattle.disp_targets.specs.Target.{target_said, low_of};
+ghost use Rattle.forms.specs.Form.{form_said};
+ghost use Rattle.host.specs.Number.{told, host_put, host_put_to, yes_no};
 
 use displacements::DistanceAnswer;
 use forms::FormAnswer;
@@ -20,7 +22,7 @@ pub extern "C" fn vaimalofo_displacement(
     base: u32,
     distance: i64,
 ) -> u64
-    ensures { (result, bytes.new) ≡ hostPut bytes.old (placeAt base_address position) (dispSaid format base distance) }
+    ensures { (result, bytes.new) ≡ host_put bytes.old (place_at base_address position) (disp_said format base distance) }
 {
     host::put(
         bytes,
@@ -41,7 +43,7 @@ pub extern "C" fn vaimalofo_displacement_to(
     base: u32,
     target: u64,
 ) -> u64
-    ensures { (result, bytes.new) ≡ hostPutTo bytes.old (placeAt base_address position) (low_of format target) (targetSaid format base target (address_of (placeAt base_address position))) }
+    ensures { (result, bytes.new) ≡ host_put_to bytes.old (place_at base_address position) (low_of format target) (target_said format base target (address_of (place_at base_address position))) }
 {
     let address = words::address_of(host::place(base_address, position));
     let word = disp_targets::disp_target_word(format, Opc(base), Address(target), address);
@@ -51,7 +53,7 @@ pub extern "C" fn vaimalofo_displacement_to(
 // Whether a word is an instruction of a format, 1 or 0: 7.
 #[unsafe(no_mangle)]
 pub extern "C" fn vaimalofo_has_form(format: u32, word: u32) -> u64
-    ensures { result ≡ told (yesNo (formSaid format word)) }
+    ensures { result ≡ told (yes_no (form_said format word)) }
 {
     match forms::has_form(format, Opc(word)) {
         FormAnswer::OfForm(b) => host::yes(b),
@@ -62,7 +64,7 @@ pub extern "C" fn vaimalofo_has_form(format: u32, word: u32) -> u64
 // The distance in bytes that a word spells at a format: 7.
 #[unsafe(no_mangle)]
 pub extern "C" fn vaimalofo_read_displacement(word: u32, format: u32) -> u64
-    ensures { result ≡ told (readSaid word format) }
+    ensures { result ≡ told (read_said word format) }
 {
     match displacements::read_disp(Opc(word), format) {
         DistanceAnswer::Distance(d) => words::bits_of(d.0) << 8,

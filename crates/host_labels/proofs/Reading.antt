@@ -7,8 +7,8 @@ use Rattle.words.specs.Said.{ok, no}
 use Rattle.words.proofs.Answers.{number_fits}
 use Rattle.labels.specs.Order.{answer}
 use Rattle.labels.proofs.Tests.{Coded}
-use Rattle.host.specs.Number.{Reads, refusalIn}
-use Rattle.host.proofs.Reading.{Small, told-reads}
+use Rattle.host.specs.Number.{Reads, refusal_in}
+use Rattle.host.proofs.Reading.{Small, told_reads}
 use Rattle.host_labels.specs.Number.{valued, numbering}
 
 -- r is the number that decides, x what is said where it refuses nothing, v its value, n the number that is answered, b what was lent
@@ -24,11 +24,11 @@ module _ {A B : Type 0} (v : A → ℤ) (r : ℕ) (c : Coded r) (x : A) (old new
   reads small = go r c small said
     where
       go : (r : ℕ) → Coded r → (r ≡ 0 → Small (ok (v x))) → n ≡ (numbering v (answer r x old new)).0 → Reads n (valued v (answer r x old new).0)
-      go zero c s e = rw e (told-reads (ok (v x)) (s refl))
-      go (suc r) c s e = rw e (told-reads (no (suc r)) c)
+      go zero c s e = rw e (told_reads (ok (v x)) (s refl))
+      go (suc r) c s e = rw e (told_reads (no (suc r)) c)
 
   -- a refusal: all that was lent is as before
-  pub kept : (refusalIn n ≡ 0 → ⊥) → b ≡ old
+  pub kept : (refusal_in n ≡ 0 → ⊥) → b ≡ old
   kept h = go r said lent
     where
       go : (r : ℕ) → n ≡ (numbering v (answer r x old new)).0 → b ≡ (numbering v (answer r x old new)).1 → b ≡ old
@@ -36,7 +36,7 @@ module _ {A B : Type 0} (v : A → ℤ) (r : ℕ) (c : Coded r) (x : A) (old new
       go (suc r) e g = g
 
   -- none: nothing refused, and it is the new
-  pub done : refusalIn n ≡ 0 → (r ≡ 0) × (b ≡ new)
+  pub done : refusal_in n ≡ 0 → (r ≡ 0) × (b ≡ new)
   done h = go r c said lent
     where
       go : (r : ℕ) → Coded r → n ≡ (numbering v (answer r x old new)).0 → b ≡ (numbering v (answer r x old new)).1 → (r ≡ 0) × (b ≡ new)

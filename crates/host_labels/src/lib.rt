@@ -1,15 +1,17 @@
 // The entries for the tool's host that bind labels, record uses and finish them, in the manner of the crate `host`. The run is one of words; table and
 // sheet are the host's memory, too: a label's entry is 0 where it is unbound, else one more than its word position; a use is a record of C.
+#![tactic(auto)]
+
 ghost use Rattle.std.specs.Prelude.{◌≡◌};
-ghost use Rattle.words.specs.Place.{placeAt};
-ghost use Rattle.labels.specs.Sheet.{useAt, bindingSaid, countSaid};
-ghost use Rattle.host_labels.specs.Number.{hostBound, hostCount, hostBind, hostUse, hostFinish};
+ghost use Rattle.words.specs.Place.{place_at};
+ghost use Rattle.labels.specs.Sheet.{use_record, binding_said, count_said};
+ghost use Rattle.host_labels.specs.Number.{host_bound, host_count, host_bind, host_use, host_finish};
 
 use labels::{Binding, Counted, Use};
 
 // The number of a binding's answer.
 fn bound(b: Binding) -> u64
-    ensures { result ≡ hostBound (bindingSaid b) }
+    ensures { result ≡ host_bound (binding_said b) }
 {
     match b {
         Binding::Bound => 0,
@@ -26,14 +28,14 @@ pub extern "C" fn vaimalofo_bind_label(
     position: usize,
     label: u32,
 ) -> u64
-    ensures { (result, labels.new) ≡ hostBind labels.old words.now label (placeAt base_address position) }
+    ensures { (result, labels.new) ≡ host_bind labels.old words.now label (place_at base_address position) }
 {
     bound(labels::bind(labels, words, label, host::place(base_address, position)))
 }
 
 // The number of a count that is at most a sheet's length, or of a refusal.
 fn told(c: Counted) -> u64
-    ensures { result ≡ hostCount (countSaid c) }
+    ensures { result ≡ host_count (count_said c) }
 {
     match c {
         Counted::Count(n) => (n % 72057594037927936 * 256) as u64,
@@ -54,7 +56,7 @@ pub extern "C" fn vaimalofo_use_label(
     base_address: u64,
     position: usize,
 ) -> u64
-    ensures { (result, uses.new) ≡ hostUse labels.now words.now uses.old count label (placeAt base_address position) format }
+    ensures { (result, uses.new) ≡ host_use labels.now words.now uses.old count label (place_at base_address position) format }
 {
     let at = host::place(base_address, position);
     let c = label_sheets::use_label(uses, count, labels, words, label, at, format);
@@ -70,7 +72,7 @@ pub extern "C" fn vaimalofo_finish_labels(
     words: &mut [u32],
     base_address: u64,
 ) -> u64
-    ensures { (result, words.new) ≡ hostFinish labels.now words.old uses.now count (placeAt base_address 0) }
+    ensures { (result, words.new) ≡ host_finish labels.now words.old uses.now count (place_at base_address 0) }
 {
     let at = host::place(base_address, 0);
     let c = label_sheets::finish(uses, count, labels, words, at);

@@ -10,65 +10,65 @@ use denote.Ref.{Bor}
 use lib.ListN.{get_or}
 use Rattle.arm.specs.BitMasks.{esize}
 use Rattle.words.specs.Said.{Said, ok, no}
-use Rattle.words.specs.Place.{placeAt}
+use Rattle.words.specs.Place.{place_at}
 use Rattle.words.specs.declared.Refusal.TheVariants.{Width, NoField}
-use Rattle.words.proofs.Answers.{number_fits, not-both}
+use Rattle.words.proofs.Answers.{number_fits, not_both}
 use Rattle.logical.specs.Answer.{Decodes}
 use Rattle.logical.specs.declared.LogicalImm.{LogicalImm}
-use Rattle.logical.proofs.Laws.{length-low}
+use Rattle.logical.proofs.Laws.{length_low}
 use Rattle.logical_decoder.specs.Answer.{Decoded, Normal}
-use Rattle.host.specs.Number.{told, refusalIn, Reads, wordsFrom}
-use Rattle.host_logical.specs.Fields.{spelled, fieldsIn, maskWords, maskIn}
-use Rattle.host.proofs.Reading.{Small, told-reads}
+use Rattle.host.specs.Number.{told, refusal_in, Reads, words_from}
+use Rattle.host_logical.specs.Fields.{spelled, fields_in, words_of_mask, mask_in}
+use Rattle.host.proofs.Reading.{Small, told_reads}
 use Rattle.host.proofs.Demands.{Sane}
 use Rattle.host.proofs.Boundary.{Refusals, known, found, refusal}
-use Rattle.host_logical.proofs.Reading.{told-bytes}
-use Rattle.host_logical.proofs.vaimalofo_normalise_logical.Reads as normalise-logical
-use Rattle.host_logical.proofs.vaimalofo_decode_logical.Reads as decode-logical
+use Rattle.host_logical.proofs.Reading.{told_bytes}
+use Rattle.host_logical.proofs.vaimalofo_normalise_logical.Reads as normalise_logical
+use Rattle.host_logical.proofs.vaimalofo_decode_logical.Reads as decode_logical
 
 -- ---- the decoder
 
-mask-sane : (w n s r : ℕ) (a : Said ℕ) → Decoded w n s r a → Sane (maskWords a)
-mask-sane w n s r (ok m) h = omega arith
-mask-sane w n s r (no k) h = ⊎_elim (λ a. (Width, sym a.0)) (λ b. (NoField, sym b.0)) h
+mask_sane : (w n s r : ℕ) (a : Said ℕ) → Decoded w n s r a → Sane (words_of_mask a)
+mask_sane w n s r (ok m) h = omega arith
+mask_sane w n s r (no k) h = ⊎_elim (λ a. (Width, sym a.0)) (λ b. (NoField, sym b.0)) h
 
 module _ (k : Lfts 1) (bytes bytes' : Bor (List ℕ)) (n s r width answer : ℕ)
-    (p : decode-logical.Post k (bytes, (n, (s, (r, (width, tt))))) answer (bytes', (n, (s, (r, (width, tt)))))) where
+    (p : decode_logical.Post k (bytes, (n, (s, (r, (width, tt))))) answer (bytes', (n, (s, (r, (width, tt)))))) where
   -- the mask that a host finds in the bytes is what Arm decodes the fields to
-  pub decode-logical-mask : refusalIn answer ≡ 0 → Decodes width n s r (maskIn answer bytes'.now)
-  decode-logical-mask z = go p.0 p.1 (found bytes.now (placeAt 0 0) answer bytes'.now (maskWords p.0) (mask-sane width n s r p.0 p.1) p.2 z)
+  pub decode_logical_mask : refusal_in answer ≡ 0 → Decodes width n s r (mask_in answer bytes'.now)
+  decode_logical_mask z = go p.0 p.1 (found bytes.now (place_at 0 0) answer bytes'.now (words_of_mask p.0) (mask_sane width n s r p.0 p.1) p.2 z)
     where
-      go : (a : Said ℕ) → Decoded width n s r a → maskWords a ≡ ok (wordsFrom answer 0 bytes'.now) → Decodes width n s r (maskIn answer bytes'.now)
+      go : (a : Said ℕ) → Decoded width n s r a → words_of_mask a ≡ ok (words_from answer 0 bytes'.now) → Decodes width n s r (mask_in answer bytes'.now)
       go (ok m) d e =
-          let ws = wordsFrom answer 0 bytes'.now in
+          let ws = words_from answer 0 bytes'.now in
           let same : m % 2 ^ 32 ∷ m / 2 ^ 32 ∷ [] ≡ ws = cc in
           let mask : m ≡ get_or ws 0 0 + get_or ws 1 0 * 2 ^ 32 = subst (λ (vs : List ℕ). m ≡ get_or vs 0 0 + get_or vs 1 0 * 2 ^ 32) same (omega arith) in
           subst (Decodes width n s r) mask d.1
-      go (no j) d e = absurd (not-both (sym e))
+      go (no j) d e = absurd (not_both (sym e))
 
-  pub decode-logical-refusal : Refusals answer
-  decode-logical-refusal = refusal bytes.now (placeAt 0 0) answer bytes'.now (maskWords p.0) (mask-sane width n s r p.0 p.1) p.2
+  pub decode_logical_refusal : Refusals answer
+  decode_logical_refusal = refusal bytes.now (place_at 0 0) answer bytes'.now (words_of_mask p.0) (mask_sane width n s r p.0 p.1) p.2
 
 -- ---- the normaliser
 
-module _ (k : Lfts 0) (n s r width answer : ℕ) (p : normalise-logical.Post k (n, (s, (r, (width, tt)))) answer (n, (s, (r, (width, tt))))) where
+module _ (k : Lfts 0) (n s r width answer : ℕ) (p : normalise_logical.Post k (n, (s, (r, (width, tt)))) answer (n, (s, (r, (width, tt))))) where
   small : (a : Said LogicalImm) → Normal width n s r a → Small (spelled a)
-  small (ok f) h = rw h.2 (omega (arith, h.1.n-bits, h.1.s-bits, h.1.r-bits, mod-le r (esize n s), length-low h.0 h.1 refl))
+  small (ok f) h = rw h.2 (omega (arith, h.1.n_bits, h.1.s_bits, h.1.r_bits, mod-le r (esize n s), length_low h.0 h.1 refl))
   small (no j) h = ⊎_elim (λ a. (Width, sym a.0)) (λ b. (NoField, sym b.0)) h
 
   reads : Reads answer (spelled p.0)
-  reads = subst⁻¹ (λ (j : ℕ). Reads j (spelled p.0)) p.2 (told-reads (spelled p.0) (small p.0 p.1))
+  reads = subst⁻¹ (λ (j : ℕ). Reads j (spelled p.0)) p.2 (told_reads (spelled p.0) (small p.0 p.1))
 
   -- what a host reads from the bytes: the same N and S, R reduced by the element length, and that length
-  pub normalise-logical-read : refusalIn answer ≡ 0 → Normal width n s r (ok (fieldsIn answer))
-  normalise-logical-read z = go p.0 p.1 p.2 reads
+  pub normalise_logical_read : refusal_in answer ≡ 0 → Normal width n s r (ok (fields_in answer))
+  normalise_logical_read z = go p.0 p.1 p.2 reads
     where
-      go : (a : Said LogicalImm) → Normal width n s r a → answer ≡ told (spelled a) → Reads answer (spelled a) → Normal width n s r (ok (fieldsIn answer))
+      go : (a : Said LogicalImm) → Normal width n s r a → answer ≡ told (spelled a) → Reads answer (spelled a) → Normal width n s r (ok (fields_in answer))
       go (ok f) h e q =
-          let b = told-bytes answer (r % esize n s) s n (esize n s) (e ∙ ap (λ (g : LogicalImm). told (spelled (ok g))) h.2)
-          (omega (arith, h.1.r-bits, mod-le r (esize n s))) (omega (arith, h.1.s-bits)) (omega (arith, h.1.n-bits)) (omega (arith, length-low h.0 h.1 refl)) in
+          let b = told_bytes answer (r % esize n s) s n (esize n s) (e ∙ ap (λ (g : LogicalImm). told (spelled (ok g))) h.2)
+          (omega (arith, h.1.r_bits, mod-le r (esize n s))) (omega (arith, h.1.s_bits)) (omega (arith, h.1.n_bits)) (omega (arith, length_low h.0 h.1 refl)) in
           (h.0, h.1, rw (b.first, b.second, b.third, b.fourth))
       go (no j) h e q = absurd (omega (arith, z, (number_fits q.0).0, q.1))
 
-  pub normalise-logical-refusal : Refusals answer
-  normalise-logical-refusal = known answer (spelled p.0) reads
+  pub normalise_logical_refusal : Refusals answer
+  normalise_logical_refusal = known answer (spelled p.0) reads

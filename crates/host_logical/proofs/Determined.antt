@@ -2,27 +2,27 @@
 use mathlib.Core.Path.{refl, sym, ap, ◌∙◌}
 use Prim.Native.Nat.{ℕ}
 use Rattle.words.specs.Said.{Said}
-use Rattle.words.specs.Place.{placeAt}
-use Rattle.words.proofs.Contracts.{OneAnswer, OneWrite, one-pair}
+use Rattle.words.specs.Place.{place_at}
+use Rattle.words.proofs.Contracts.{OneAnswer, OneWrite, one_pair}
 use Rattle.logical.specs.declared.LogicalImm.{LogicalImm}
 use Rattle.logical.proofs.Laws.{one_from}
-use Rattle.logical_decoder.proofs.Laws.{decoded-one, normal-one}
-use Rattle.host.specs.Number.{told, hostPut}
-use Rattle.host_logical.specs.Fields.{spelled, maskWords}
-use Rattle.host_logical.proofs.vaimalofo_logical_fields.Reads as logical-fields
-use Rattle.host_logical.proofs.vaimalofo_normalise_logical.Reads as normalise-logical
-use Rattle.host_logical.proofs.vaimalofo_decode_logical.Reads as decode-logical
-use Rattle.host_logical.proofs.vaimalofo_logical_word.Reads as logical-word
+use Rattle.logical_decoder.proofs.Laws.{decoded_one, normal_one}
+use Rattle.host.specs.Number.{told, host_put}
+use Rattle.host_logical.specs.Fields.{spelled, words_of_mask}
+use Rattle.host_logical.proofs.vaimalofo_logical_fields.Reads as logical_fields
+use Rattle.host_logical.proofs.vaimalofo_normalise_logical.Reads as normalise_logical
+use Rattle.host_logical.proofs.vaimalofo_decode_logical.Reads as decode_logical
+use Rattle.host_logical.proofs.vaimalofo_logical_word.Reads as logical_word
 
-pub logical-fields-determined : OneAnswer logical-fields.Post
-logical-fields-determined k a r s x y p q = one_from p q
+pub logical_fields_determined : OneAnswer logical_fields.Post
+logical_fields_determined k a r s x y p q = one_from p q
 
-pub normalise-logical-determined : OneAnswer normalise-logical.Post
-normalise-logical-determined k a r s x y p q = p.2 ∙ ap (λ (z : Said LogicalImm). told (spelled z)) (normal-one _ _ _ _ p.0 q.0 p.1 q.1) ∙ sym q.2
+pub normalise_logical_determined : OneAnswer normalise_logical.Post
+normalise_logical_determined k a r s x y p q = p.2 ∙ ap (λ (z : Said LogicalImm). told (spelled z)) (normal_one _ _ _ _ p.0 q.0 p.1 q.1) ∙ sym q.2
 
-pub decode-logical-determined : OneWrite decode-logical.Post (λ k x. x.0.now)
-decode-logical-determined k a r s x y p q =
-    one-pair (p.2 ∙ ap (λ (z : Said ℕ). hostPut a.0.now (placeAt 0 0) (maskWords z)) (decoded-one _ _ _ _ p.0 q.0 p.1 q.1) ∙ sym q.2) refl
+pub decode_logical_determined : OneWrite decode_logical.Post (λ k x. x.0.now)
+decode_logical_determined k a r s x y p q =
+    one_pair (p.2 ∙ ap (λ (z : Said ℕ). host_put a.0.now (place_at 0 0) (words_of_mask z)) (decoded_one _ _ _ _ p.0 q.0 p.1 q.1) ∙ sym q.2) refl
 
-pub logical-word-determined : OneWrite logical-word.Post (λ k x. x.0.now)
-logical-word-determined k a r s x y p q = one-pair (one_from p q) refl
+pub logical_word_determined : OneWrite logical_word.Post (λ k x. x.0.now)
+logical_word_determined k a r s x y p q = one_pair (one_from p q) refl

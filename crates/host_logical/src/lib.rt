@@ -1,12 +1,14 @@
 // The entries for the tool's host on logical immediates: fields, masks and words. Each answers one number, as crates/host says.
+#![tactic(auto)]
+
 ghost use Rattle.std.specs.Prelude.{◌≡◌, ◌≤◌};
 ghost use Rattle.words.specs.Said.{Said};
 ghost use Rattle.words.specs.Answer.{made};
 ghost use Rattle.words.specs.Listed.{listed};
-ghost use Rattle.words.specs.Place.{placeAt};
+ghost use Rattle.words.specs.Place.{place_at};
 ghost use Rattle.logical_words.specs.Word.{ForWord};
-ghost use Rattle.host.specs.Number.{told, hostPut};
-ghost use Rattle.host_logical.specs.Fields.{spelled, ForFields, ForNormal, maskWords, ForMask};
+ghost use Rattle.host.specs.Number.{told, host_put};
+ghost use Rattle.host_logical.specs.Fields.{spelled, ForFields, ForNormal, words_of_mask, ForMask};
 
 use logical::{LogicalAnswer, LogicalImm};
 use logical_decoder::MaskAnswer;
@@ -44,7 +46,7 @@ pub extern "C" fn vaimalofo_normalise_logical(n: u32, s: u32, r: u32, width: u32
 
 // A mask as two words, the low one first.
 fn mask_words(m: u64) -> Worded
-    ensures { listed (made result) ≡ maskWords (Said.ok m) }
+    ensures { listed (made result) ≡ words_of_mask (Said.ok m) }
 {
     Worded::Made(words::two((m % 4294967296) as u32, (m / 4294967296) as u32))
 }
@@ -58,7 +60,7 @@ pub extern "C" fn vaimalofo_decode_logical(
     r: u32,
     width: u32,
 ) -> u64
-    ensures { ForMask width n s r (λ a. (result, bytes.new) ≡ hostPut bytes.old (placeAt 0 0) (maskWords a)) }
+    ensures { ForMask width n s r (λ a. (result, bytes.new) ≡ host_put bytes.old (place_at 0 0) (words_of_mask a)) }
 {
     match logical_decoder::decode_logical_imm(n, s, r, width) {
         MaskAnswer::Mask(m) => host::put(bytes, 0, 0, mask_words(m)),
@@ -78,7 +80,7 @@ pub extern "C" fn vaimalofo_logical_word(
     rn: u32,
     rd: u32,
 ) -> u64
-    ensures { ForWord operation value width rn rd (λ x. (result, bytes.new) ≡ hostPut bytes.old (placeAt base_address position) x) }
+    ensures { ForWord operation value width rn rd (λ x. (result, bytes.new) ≡ host_put bytes.old (place_at base_address position) x) }
 {
     host::put(
         bytes,

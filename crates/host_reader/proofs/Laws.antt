@@ -22,35 +22,35 @@ use Rattle.reader.specs.declared.Found.{Found}
 use Rattle.reader.specs.declared.Found.TheVariants.{Joined, Single, End, No}
 use Rattle.reader.specs.declared.Span.{Span}
 use Rattle.reader.specs.Cover.{span_of}
-use Rattle.reader.specs.Found.{span, joinedOf, foundItem, foundOf}
+use Rattle.reader.specs.Found.{span, joined_of, found_item, found_of}
 use Rattle.reader.proofs.Finds as finds
-use Rattle.host.specs.Number.{valueIn, Reads}
+use Rattle.host.specs.Number.{value_in, Reads}
 use Rattle.host.proofs.Reading.{Small}
-use Rattle.host_reader.specs.Numbers.{itemKind, kind_of, numbersOf, hostFound, hostRead}
+use Rattle.host_reader.specs.Numbers.{item_kind, kind_of, number_list, host_found, host_read}
 
 -- a bool as a number is 1 or 0
-pub one-or-none : (b : Bool) → bool_byte b ≡ cond b 1 0
-one-or-none true = refl
-one-or-none false = refl
+pub one_or_none : (b : Bool) → bool_byte b ≡ cond b 1 0
+one_or_none true = refl
+one_or_none false = refl
 
 -- ---- reading
 
 -- the item that was matched
-pub matched : (ns : List ℕ) (s : Span) {y : ℕ × List ℕ} {i j : Item} → y ≡ hostFound ns (Single i s) → j ≡ i → y ≡ hostFound ns (Single j s)
-matched ns s p e = p ∙ ap (λ (k : Item). hostFound ns (Single k s)) (sym e)
+pub matched : (ns : List ℕ) (s : Span) {y : ℕ × List ℕ} {i j : Item} → y ≡ host_found ns (Single i s) → j ≡ i → y ≡ host_found ns (Single j s)
+matched ns s p e = p ∙ ap (λ (k : Item). host_found ns (Single k s)) (sym e)
 
 module _ (ws : List ℕ) (at : ℕ) (ns : List ℕ) where
-  pub too_few : length ns < 11 → {n : ℕ} → n ≡ 8 → (n, ns) ≡ hostRead ws at ns
+  pub too_few : length ns < 11 → {n : ℕ} → n ≡ 8 → (n, ns) ≡ host_read ws at ns
   too_few h e = ap (λ (k : ℕ). (k, ns)) e ∙ simp (lt-ltb (length ns) 11 h)
 
   -- what was found was matched
-  pub enough : 11 ≤ length ns → {y : ℕ × List ℕ} {f g : Found} → y ≡ hostFound ns f → g ≡ f → g ≡ foundOf ws at → y ≡ hostRead ws at ns
-  enough h p e q = p ∙ ap (hostFound ns) (sym e ∙ q) ∙ simp (le-ltb (length ns) 11 h)
+  pub enough : 11 ≤ length ns → {y : ℕ × List ℕ} {f g : Found} → y ≡ host_found ns f → g ≡ f → g ≡ found_of ws at → y ≡ host_read ws at ns
+  enough h p e q = p ∙ ap (host_found ns) (sym e ∙ q) ∙ simp (le-ltb (length ns) 11 h)
 
 -- ---- the numbers of what was found
 
 -- an item has eleven at most
-pub most : (f : Found) → length (numbersOf f) ≤ 11
+pub most : (f : Found) → length (number_list f) ≤ 11
 most (Joined c s) = omega arith
 most (Single (item.Wide m) s) = omega arith
 most (Single (item.Logical l) s) = omega arith
@@ -74,8 +74,8 @@ module _ (ns vs : List ℕ) (h : length vs ≤ length ns) where
   written : sets ns 0 vs ≡ vs ++ drop (length vs) ns
   written = sets-eq vs ns 0 (omega arith) ∙ ap (λ (k : ℕ). vs ++ drop k ns) (zero-add (length vs))
 
-  pub written-first : (i : ℕ) → i < length vs → get_or (sets ns 0 vs) i 0 ≡ get_or vs i 0
-  written-first i l = ap (λ (z : List ℕ). get_or z i 0) written ∙ get_or-append vs (drop (length vs) ns) 0 i l
+  pub written_first : (i : ℕ) → i < length vs → get_or (sets ns 0 vs) i 0 ≡ get_or vs i 0
+  written_first i l = ap (λ (z : List ℕ). get_or z i 0) written ∙ get_or-append vs (drop (length vs) ns) 0 i l
 
   pub written_behind : (i : ℕ) → length vs ≤ i → get_or (sets ns 0 vs) i 0 ≡ get_or ns i 0
   written_behind i l =
@@ -90,8 +90,8 @@ module _ (ns vs : List ℕ) (h : length vs ≤ length ns) where
 pub record Spanned (f : Found) (s : Span) : Type 0 where
   pub kind : ℕ
   pub is : kind_of f ≡ ok (pos kind)
-  pub some : 0 < length (numbersOf f)
-  pub next : get_or (numbersOf f) 0 0 ≡ s.next.0
+  pub some : 0 < length (number_list f)
+  pub next : get_or (number_list f) 0 0 ≡ s.next.0
 
 pub spanned : (f : Found) {s : Span} → span_of f ≡ some s → Spanned f s
 spanned (Joined c t) {s} e = let same : t ≡ s = cc in record { kind = 1; is = refl; some = omega arith; next = ap (λ (u : Span). u.next.0) same }
@@ -106,50 +106,50 @@ spanned End e = let z : ◌≡◌ {A = ℕ} 0 1 = cc in absurd (omega arith)
 spanned (No r) e = let z : ◌≡◌ {A = ℕ} 0 1 = cc in absurd (omega arith)
 
 -- kind 1 is a constant's alone, the kinds from 2 on are items' of one word
-module _ (x kind : ℕ) (v : valueIn x ≡ pos kind) where
-  kinds : {m : ℕ} → valueIn x ≡ pos m → m ≡ kind
+module _ (x kind : ℕ) (v : value_in x ≡ pos kind) where
+  kinds : {m : ℕ} → value_in x ≡ pos m → m ≡ kind
   kinds e = ap mag (sym e ∙ v)
 
-  pub joined-kind : (f : Found) → Reads x (kind_of f) → kind ≡ 1 → (c : Constant) × (s : Span) × (f ≡ Joined c s)
-  joined-kind (Joined c s) r k = (c, s, refl)
-  joined-kind (Single i s) r k = absurd (go i (kinds r.1))
+  pub joined_kind : (f : Found) → Reads x (kind_of f) → kind ≡ 1 → (c : Constant) × (s : Span) × (f ≡ Joined c s)
+  joined_kind (Joined c s) r k = (c, s, refl)
+  joined_kind (Single i s) r k = absurd (go i (kinds r.1))
     where
-      go : (i : Item) → itemKind i ≡ kind → ⊥
+      go : (i : Item) → item_kind i ≡ kind → ⊥
       go (item.Wide m) q = omega arith
       go (item.Logical l) q = omega arith
       go (item.Displaced d) q = omega arith
       go (item.Unknown w) q = omega arith
-  joined-kind End r k = absurd (omega (arith, kinds r.1))
-  joined-kind (No e) r k = absurd (omega (arith, kinds r.2))
+  joined_kind End r k = absurd (omega (arith, kinds r.1))
+  joined_kind (No e) r k = absurd (omega (arith, kinds r.2))
 
-  pub single-kind : (f : Found) → Reads x (kind_of f) → 2 ≤ kind → (i : Item) × (s : Span) × (f ≡ Single i s)
-  single-kind (Joined c s) r k = absurd (omega (arith, kinds r.1))
-  single-kind (Single i s) r k = (i, s, refl)
-  single-kind End r k = absurd (omega (arith, kinds r.1))
-  single-kind (No e) r k = absurd (omega (arith, kinds r.2))
+  pub single_kind : (f : Found) → Reads x (kind_of f) → 2 ≤ kind → (i : Item) × (s : Span) × (f ≡ Single i s)
+  single_kind (Joined c s) r k = absurd (omega (arith, kinds r.1))
+  single_kind (Single i s) r k = (i, s, refl)
+  single_kind End r k = absurd (omega (arith, kinds r.1))
+  single_kind (No e) r k = absurd (omega (arith, kinds r.2))
 
 -- a constant is no item of one word
-no-constant : (ws : List ℕ) (at sf rd : ℕ) {i : Item} {s : Span} → joinedOf ws at sf rd ≡ Single i s → ⊥
-unfolding joinedOf
-no-constant ws at sf rd e = let z : ◌≡◌ {A = ℕ} 0 1 = cc in omega arith
+no_constant : (ws : List ℕ) (at sf rd : ℕ) {i : Item} {s : Span} → joined_of ws at sf rd ≡ Single i s → ⊥
+unfolding joined_of
+no_constant ws at sf rd e = let z : ◌≡◌ {A = ℕ} 0 1 = cc in omega arith
 
 -- an item of one word is what the word at the position is
 module _ (ws : List ℕ) (at : ℕ) {i : Item} {s : Span} where
-  single-item : (j : Item) → foundItem ws at j ≡ Single i s → (i ≡ j) × (s ≡ span at (at + 1))
-  single-item (item.Wide m) = go (eqb m.opc 3)
+  single_item : (j : Item) → found_item ws at j ≡ Single i s → (i ≡ j) × (s ≡ span at (at + 1))
+  single_item (item.Wide m) = go (eqb m.opc 3)
     where
-      go : (b : Bool) → cond b (Single (item.Wide m) (span at (at + 1))) (joinedOf ws at m.sf m.rd) ≡ Single i s → (i ≡ item.Wide m) × (s ≡ span at (at + 1))
+      go : (b : Bool) → cond b (Single (item.Wide m) (span at (at + 1))) (joined_of ws at m.sf m.rd) ≡ Single i s → (i ≡ item.Wide m) × (s ≡ span at (at + 1))
       go true e = (cc, cc)
-      go false e = absurd (no-constant ws at m.sf m.rd e)
-  single-item (item.Logical l) = λ e. (cc, cc)
-  single-item (item.Displaced d) = λ e. (cc, cc)
-  single-item (item.Unknown w) = λ e. (cc, cc)
+      go false e = absurd (no_constant ws at m.sf m.rd e)
+  single_item (item.Logical l) = λ e. (cc, cc)
+  single_item (item.Displaced d) = λ e. (cc, cc)
+  single_item (item.Unknown w) = λ e. (cc, cc)
 
-  pub single-is : foundOf ws at ≡ Single i s → (i ≡ item_of (get_or ws at 0)) × (s ≡ span at (at + 1))
-  single-is e = go (ltb at (length ws)) refl (eqb (length ws) at) refl
+  pub single_is : found_of ws at ≡ Single i s → (i ≡ item_of (get_or ws at 0)) × (s ≡ span at (at + 1))
+  single_is e = go (ltb at (length ws)) refl (eqb (length ws) at) refl
     where
       go : (b : Bool) → ltb at (length ws) ≡ b → (d : Bool) → eqb (length ws) at ≡ d → (i ≡ item_of (get_or ws at 0)) × (s ≡ span at (at + 1))
-      go true l d q = single-item (item_of (get_or ws at 0)) (sym (finds.inside ws at (ltb-true _ _ l)) ∙ e)
+      go true l d q = single_item (item_of (get_or ws at 0)) (sym (finds.inside ws at (ltb-true _ _ l)) ∙ e)
       go false l true q = let f = finds.end ws at (eqb-true _ _ q) ∙ e in let z : ◌≡◌ {A = ℕ} 0 1 = cc in absurd (omega arith)
       go false l false q =
           let n : length ws ≡ at → ⊥ = eqb-false _ _ q in

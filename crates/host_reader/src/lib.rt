@@ -1,7 +1,9 @@
 // The entries for the tool's host that read words back, in the manner of the crate `host`. The value of an answer is the kind of what was read, and its
 // numbers are written into a lent run of numbers, from the first on.
+#![tactic(auto)]
+
 ghost use Rattle.std.specs.Prelude.{◌≡◌, ◌≤◌, length};
-ghost use Rattle.host_reader.specs.Numbers.{hostFound, hostRead};
+ghost use Rattle.host_reader.specs.Numbers.{host_found, host_read};
 
 use items::{Displacement, Item, LogicalWord};
 use reader::{Constant, Found, Span};
@@ -11,7 +13,7 @@ use words::{Opc, Refusal, WordPos};
 // A constant, kind 1: next, register, size, value, words.
 fn constant(numbers: &mut [u64], c: Constant, s: Span) -> u64
     requires { 11 ≤ length numbers.old }
-    ensures { (result, numbers.new) ≡ hostFound numbers.old (Found.Joined c s) }
+    ensures { (result, numbers.new) ≡ host_found numbers.old (Found.Joined c s) }
 {
     numbers[0] = s.next.0 as u64;
     numbers[1] = c.rd as u64;
@@ -24,7 +26,7 @@ fn constant(numbers: &mut [u64], c: Constant, s: Span) -> u64
 // A lone MOVK, kind 2: next, register, size, halfword, place.
 fn movk(numbers: &mut [u64], m: WideMove, s: Span) -> u64
     requires { 11 ≤ length numbers.old }
-    ensures { (result, numbers.new) ≡ hostFound numbers.old (Found.Single (Item.Wide m) s) }
+    ensures { (result, numbers.new) ≡ host_found numbers.old (Found.Single (Item.Wide m) s) }
 {
     numbers[0] = s.next.0 as u64;
     numbers[1] = m.rd as u64;
@@ -37,7 +39,7 @@ fn movk(numbers: &mut [u64], m: WideMove, s: Span) -> u64
 // A logical immediate, kind 3: next, operation, width, rn, rd, value, N, S, R, element length, normal.
 fn logical(numbers: &mut [u64], l: LogicalWord, s: Span) -> u64
     requires { 11 ≤ length numbers.old }
-    ensures { (result, numbers.new) ≡ hostFound numbers.old (Found.Single (Item.Logical l) s) }
+    ensures { (result, numbers.new) ≡ host_found numbers.old (Found.Single (Item.Logical l) s) }
 {
     numbers[0] = s.next.0 as u64;
     numbers[1] = l.operation as u64;
@@ -56,7 +58,7 @@ fn logical(numbers: &mut [u64], l: LogicalWord, s: Span) -> u64
 // A displacement, kind 4: next, format, base, distance.
 fn displaced(numbers: &mut [u64], d: Displacement, s: Span) -> u64
     requires { 11 ≤ length numbers.old }
-    ensures { (result, numbers.new) ≡ hostFound numbers.old (Found.Single (Item.Displaced d) s) }
+    ensures { (result, numbers.new) ≡ host_found numbers.old (Found.Single (Item.Displaced d) s) }
 {
     numbers[0] = s.next.0 as u64;
     numbers[1] = d.format as u64;
@@ -68,7 +70,7 @@ fn displaced(numbers: &mut [u64], d: Displacement, s: Span) -> u64
 // An unknown word, kind 5: next, word, position.
 fn unknown(numbers: &mut [u64], w: Opc, s: Span) -> u64
     requires { 11 ≤ length numbers.old }
-    ensures { (result, numbers.new) ≡ hostFound numbers.old (Found.Single (Item.Unknown w) s) }
+    ensures { (result, numbers.new) ≡ host_found numbers.old (Found.Single (Item.Unknown w) s) }
 {
     numbers[0] = s.next.0 as u64;
     numbers[1] = w.0 as u64;
@@ -79,7 +81,7 @@ fn unknown(numbers: &mut [u64], w: Opc, s: Span) -> u64
 // An item of one word.
 fn single(numbers: &mut [u64], item: Item, s: Span) -> u64
     requires { 11 ≤ length numbers.old }
-    ensures { (result, numbers.new) ≡ hostFound numbers.old (Found.Single item s) }
+    ensures { (result, numbers.new) ≡ host_found numbers.old (Found.Single item s) }
 {
     match item {
         Item::Wide(m) => movk(numbers, m, s),
@@ -92,7 +94,7 @@ fn single(numbers: &mut [u64], item: Item, s: Span) -> u64
 // What stands at a position of a run of words, kind 0 being its end: 8.
 #[unsafe(no_mangle)]
 pub extern "C" fn vaimalofo_read(words: &[u32], position: usize, numbers: &mut [u64]) -> u64
-    ensures { (result, numbers.new) ≡ hostRead words.now position numbers.old }
+    ensures { (result, numbers.new) ≡ host_read words.now position numbers.old }
 {
     if numbers.len() < 11 {
         return host::refused(Refusal::NoRoom);

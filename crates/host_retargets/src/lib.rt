@@ -1,11 +1,13 @@
 // The entries for the tool's host that give a word already written another distance, in the manner of the crate `host`.
+#![tactic(auto)]
+
 ghost use Rattle.std.specs.Prelude.{◌≡◌, ◌+◌, ◌*◌, ◌<◌, length};
-ghost use Rattle.words.specs.Place.{placeAt, address_of};
+ghost use Rattle.words.specs.Place.{place_at, address_of};
 ghost use Rattle.writers.specs.Put.{words_in};
 ghost use Rattle.disp_targets.specs.Target.{low_of};
-ghost use Rattle.retargets.specs.Retarget.{word_at, standingSaid, againSaid, againTo};
-ghost use Rattle.host.specs.Number.{hostPut, hostPutTo};
-ghost use Rattle.host_retargets.specs.Private.{fourFrom};
+ghost use Rattle.retargets.specs.Retarget.{word_at, standing_said, again_said, again_to};
+ghost use Rattle.host.specs.Number.{host_put, host_put_to};
+ghost use Rattle.host_retargets.specs.Private.{four_from};
 
 use retargets::Standing;
 use words::{Address, ByteDistance, Opc, Refusal};
@@ -26,14 +28,14 @@ fn four(a: u8, b: u8, c: u8, d: u8) -> u32
 // Those from j on.
 fn joined(bytes: &[u8], j: usize) -> u32
     requires { j + 3 < length bytes.now }
-    ensures { result ≡ fourFrom bytes.now j }
+    ensures { result ≡ four_from bytes.now j }
 {
     four(bytes[j], bytes[j + 1], bytes[j + 2], bytes[j + 3])
 }
 
 // The word that stands at a position of a run of bytes, or 8.
 fn found(bytes: &[u8], position: usize) -> Standing
-    ensures { standingSaid result ≡ word_at (words_in bytes.now) position }
+    ensures { standing_said result ≡ word_at (words_in bytes.now) position }
 {
     if position < bytes.len() / 4 {
         return Standing::Stands(Opc(joined(bytes, position * 4)));
@@ -50,7 +52,7 @@ pub extern "C" fn vaimalofo_retarget(
     format: u32,
     distance: i64,
 ) -> u64
-    ensures { (result, bytes.new) ≡ hostPut bytes.old (placeAt base_address position) (againSaid format (word_at (words_in bytes.old) position) distance) }
+    ensures { (result, bytes.new) ≡ host_put bytes.old (place_at base_address position) (again_said format (word_at (words_in bytes.old) position) distance) }
 {
     let there = found(bytes, position);
     let word = retargets::retarget_word(format, there, ByteDistance(distance));
@@ -67,7 +69,7 @@ pub extern "C" fn vaimalofo_retarget_to(
     format: u32,
     target: u64,
 ) -> u64
-    ensures { (result, bytes.new) ≡ hostPutTo bytes.old (placeAt base_address position) (low_of format target) (againTo format (word_at (words_in bytes.old) position) target (address_of (placeAt base_address position))) }
+    ensures { (result, bytes.new) ≡ host_put_to bytes.old (place_at base_address position) (low_of format target) (again_to format (word_at (words_in bytes.old) position) target (address_of (place_at base_address position))) }
 {
     let there = found(bytes, position);
     let address = words::address_of(host::place(base_address, position));

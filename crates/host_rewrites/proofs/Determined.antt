@@ -2,5 +2,5 @@
 use Rattle.words.proofs.Contracts.{OneAnswer, one_answer}
 use Rattle.host_rewrites.proofs.vaimalofo_rewrite.Reads as rewrite
 
-pub rewrite-determined : OneAnswer rewrite.Post
-rewrite-determined k a r s x y p q = one_answer p q
+pub rewrite_determined : OneAnswer rewrite.Post
+rewrite_determined k a r s x y p q = one_answer p q

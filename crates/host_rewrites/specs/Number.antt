@@ -5,5 +5,5 @@ use Rattle.item_words.specs.Again.{rewritten}
 use Rattle.host.specs.Number.{told}
 
 -- a word, written again from its own fields: never a refusal
-abbrev pub hostRewrite : ℕ → ℕ
-hostRewrite w = told (ok (pos (rewritten w)))
+abbrev pub host_rewrite : ℕ → ℕ
+host_rewrite w = told (ok (pos (rewritten w)))

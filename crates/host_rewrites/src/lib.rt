@@ -1,14 +1,16 @@
 // The entry for the tool's host that writes a word again, in the manner of the crate `host`. It is a crate of its own so that `items::read_word` has one
 // caller in each member of the library, and is compiled into it: the entry that reads a run is then twice as fast.
+#![tactic(auto)]
+
 ghost use Rattle.std.specs.Prelude.{◌≡◌};
-ghost use Rattle.host_rewrites.specs.Number.{hostRewrite};
+ghost use Rattle.host_rewrites.specs.Number.{host_rewrite};
 
 use words::{Opc, Worded};
 
 // A word written again from its own fields.
 #[unsafe(no_mangle)]
 pub extern "C" fn vaimalofo_rewrite(word: u32) -> u64
-    ensures { result ≡ hostRewrite word }
+    ensures { result ≡ host_rewrite word }
 {
     match item_words::write_item(items::read_word(Opc(word))) {
         Worded::Made(f) => f.a as u64 * 256,

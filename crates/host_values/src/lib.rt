@@ -1,11 +1,13 @@
 // The entries for the tool's host on values alone: small immediates, register numbers, the condition field, and the count of halfwords. Each answers
 // one number, as the entries of crates/host: a refusal's number in its low byte (0: nothing was refused), and above it the value (0 with a refusal).
+#![tactic(auto)]
+
 ghost use Rattle.std.specs.Prelude.{◌≡◌, pos};
 ghost use Rattle.words.specs.Said.{Said};
 ghost use Rattle.halfwords.specs.Halfwords.{count};
-ghost use Rattle.registers.specs.Checks.{gpOk, vecOk, condField};
+ghost use Rattle.registers.specs.Checks.{gp_ok, vec_ok, cond_field};
 ghost use Rattle.immediates.specs.Says.{said, FloatSays, MaskSays};
-ghost use Rattle.host.specs.Number.{told, yesNo};
+ghost use Rattle.host.specs.Number.{told, yes_no};
 ghost use Rattle.host_values.specs.Values.{natural, TestSays, Tells};
 
 use immediates::Imm8Answer;
@@ -47,7 +49,7 @@ pub extern "C" fn vaimalofo_float_imm8(value: u64, width: u32) -> u64
 // Whether the low bits of a value have an 8-bit float, at width 16, 32 or 64, 1 or 0: 1.
 #[unsafe(no_mangle)]
 pub extern "C" fn vaimalofo_is_float_imm8(value: u64, width: u32) -> u64
-    ensures { Tells (TestSays width value) yesNo result }
+    ensures { Tells (TestSays width value) yes_no result }
 {
     match width {
         16 => host::yes(immediates::is_fp16_imm8((value % 4294967296) as u32)),
@@ -68,7 +70,7 @@ pub extern "C" fn vaimalofo_byte_mask_imm8(value: u64) -> u64
 // Whether a number is a general register's, below 31 or the high one, 1 or 0: never refused.
 #[unsafe(no_mangle)]
 pub extern "C" fn vaimalofo_check_gp_id(id: u32, high: u32) -> u64
-    ensures { result ≡ told (yesNo (Said.ok (gpOk id high))) }
+    ensures { result ≡ told (yes_no (Said.ok (gp_ok id high))) }
 {
     host::yes(registers::check_gp_id(id, high))
 }
@@ -76,7 +78,7 @@ pub extern "C" fn vaimalofo_check_gp_id(id: u32, high: u32) -> u64
 // Whether a number is a vector register's, below 32, 1 or 0: never refused.
 #[unsafe(no_mangle)]
 pub extern "C" fn vaimalofo_check_vec_id(id: u32) -> u64
-    ensures { result ≡ told (yesNo (Said.ok (vecOk id))) }
+    ensures { result ≡ told (yes_no (Said.ok (vec_ok id))) }
 {
     host::yes(registers::check_vec_id(id))
 }
@@ -84,7 +86,7 @@ pub extern "C" fn vaimalofo_check_vec_id(id: u32) -> u64
 // The condition field of a condition code, 2 less modulo 16, for every number: never refused.
 #[unsafe(no_mangle)]
 pub extern "C" fn vaimalofo_cond_field(cond: u32) -> u64
-    ensures { result ≡ told (Said.ok (pos (condField cond))) }
+    ensures { result ≡ told (Said.ok (pos (cond_field cond))) }
 {
     value_of(registers::cond_code_to_opcode_field(cond))
 }

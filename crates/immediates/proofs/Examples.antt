@@ -6,55 +6,55 @@ use mathlib.Core.Logic.{inl, inr, ⊎_elim}
 use Prim.Native.Nat.{ℕ, ◌%◌, ◌^◌}
 use borrow.Author.Tests.{eqb-true, eqb-false}
 use lib.Dec.{eqb}
-use Rattle.arm.specs.Imm8.{readFloat, readMask, floatSum, maskSum}
+use Rattle.arm.specs.Imm8.{read_float, read_mask, float_sum, mask_sum}
 use Rattle.arm.proofs.Worked.{Worked}
 use Rattle.words.specs.Said.{Said, ok, no}
 use Rattle.immediates.specs.Says.{FloatSays, MaskSays}
 use Rattle.immediates.specs.Steps.{settled}
 use Rattle.immediates.proofs.Laws.{fp16, fp32, fp64, mask}
-use Rattle.immediates.proofs.Determined.{one_float, one-mask}
+use Rattle.immediates.proofs.Determined.{one_float, one_mask}
 
 abbrev pub at : (ℕ → ℕ) → (ℕ → ℕ) → ℕ → Said ℕ
 at read sum x = settled (read x) (sum (read x)) x
 
 abbrev pub float_of : ℕ → ℕ → Said ℕ
 float_of N v =
-    cond (eqb N 16) (at (readFloat 5 10) (floatSum 1 6) (v % 2 ^ 16))
-    (cond (eqb N 32) (at (readFloat 8 23) (floatSum 4 19) (v % 2 ^ 32))
-    (cond (eqb N 64) (at (readFloat 11 52) (floatSum 7 48) (v % 2 ^ 64))
+    cond (eqb N 16) (at (read_float 5 10) (float_sum 1 6) (v % 2 ^ 16))
+    (cond (eqb N 32) (at (read_float 8 23) (float_sum 4 19) (v % 2 ^ 32))
+    (cond (eqb N 64) (at (read_float 11 52) (float_sum 7 48) (v % 2 ^ 64))
     (no 1)))
 
 abbrev pub mask_of : ℕ → Said ℕ
-mask_of v = at (readMask 8) (maskSum 8) v
+mask_of v = at (read_mask 8) (mask_sum 8) v
 
 -- each is the answer that the contract allows
-pub float-of : (N v : ℕ) (a : Said ℕ) → FloatSays N v a → a ≡ float_of N v
+pub float_of_lem : (N v : ℕ) (a : Said ℕ) → FloatSays N v a → a ≡ float_of N v
 unfolding FloatSays
-float-of N v a s = one_float N v a (float_of N v) s (by (eqb N 16) (eqb N 32) (eqb N 64) refl refl refl)
+float_of_lem N v a s = one_float N v a (float_of N v) s (by (eqb N 16) (eqb N 32) (eqb N 64) refl refl refl)
   where
     by : (p q r : Bool) → eqb N 16 ≡ p → eqb N 32 ≡ q → eqb N 64 ≡ r
-        → FloatSays N v (cond p (at (readFloat 5 10) (floatSum 1 6) (v % 2 ^ 16))
-        (cond q (at (readFloat 8 23) (floatSum 4 19) (v % 2 ^ 32))
-        (cond r (at (readFloat 11 52) (floatSum 7 48) (v % 2 ^ 64))
+        → FloatSays N v (cond p (at (read_float 5 10) (float_sum 1 6) (v % 2 ^ 16))
+        (cond q (at (read_float 8 23) (float_sum 4 19) (v % 2 ^ 32))
+        (cond r (at (read_float 11 52) (float_sum 7 48) (v % 2 ^ 64))
         (no 1))))
     by true q r e f g = rw (eqb-true N 16 e) (inl (inl refl, fp16 (v % 2 ^ 16)))
     by false true r e f g = rw (eqb-true N 32 f) (inl (inr (inl refl), fp32 (v % 2 ^ 32)))
     by false false true e f g = rw (eqb-true N 64 g) (inl (inr (inr refl), fp64 (v % 2 ^ 64)))
     by false false false e f g = inr (⊎_elim (eqb-false N 16 e) (⊎_elim (eqb-false N 32 f) (eqb-false N 64 g)), refl)
 
-pub mask-of : (v : ℕ) (a : Said ℕ) → MaskSays v a → a ≡ mask_of v
-mask-of v a s = one-mask v a (mask_of v) s (mask v)
+pub mask_of_lem : (v : ℕ) (a : Said ℕ) → MaskSays v a → a ≡ mask_of v
+mask_of_lem v a s = one_mask v a (mask_of v) s (mask v)
 
 -- "1.0 in fp64: 112; 0.0: no 3; mask FF000000000000FF: 129"
 pub one : (a : Said ℕ) → FloatSays 64 0x3FF0000000000000 a → a ≡ ok 112
-one a s = float-of 64 0x3FF0000000000000 a s
+one a s = float_of_lem 64 0x3FF0000000000000 a s
 
 pub zero : (a : Said ℕ) → FloatSays 64 0 a → a ≡ no 3
-zero a s = float-of 64 0 a s
+zero a s = float_of_lem 64 0 a s
 
 pub ends : (a : Said ℕ) → MaskSays 0xFF000000000000FF a → a ≡ ok 129
-unfolding readMask maskSum
-ends a s = mask-of 0xFF000000000000FF a s
+unfolding read_mask mask_sum
+ends a s = mask_of_lem 0xFF000000000000FF a s
 
 -- neighbours, in one test
 pub all_right :
@@ -76,5 +76,5 @@ pub all_right :
     ∷ (mask_of 0x00000000000000FE, no 3)
     ∷ (mask_of 0x0100000000000000, no 3)
     ∷ [])
-unfolding readMask maskSum
+unfolding read_mask mask_sum
 all_right = refl

@@ -5,11 +5,11 @@ use Prim.Native.Nat.{ℕ, ◌<◌}
 use borrow.Author.Tests.{eqb-true, eqb-false}
 use lib.Dec.{eqb}
 use Rattle.arm.specs.Immediates.{VFPExpandImm, ByteMask}
-use Rattle.arm.specs.Imm8.{readFloat, readMask, floatSum, maskSum}
-use Rattle.arm.proofs.Expand.{read_below, read-few, back16, back32, back64, sum16, sum32, sum64, mask-back, mask-sum}
+use Rattle.arm.specs.Imm8.{read_float, read_mask, float_sum, mask_sum}
+use Rattle.arm.proofs.Expand.{read_below, read_few, back16, back32, back64, sum16, sum32, sum64, mask_back, mask_sum_lem}
 use Rattle.words.specs.Said.{Said, ok, no}
 use Rattle.immediates.specs.Says.{Spells, MaskSays, Tests}
-use Rattle.immediates.specs.Steps.{settled, isOk}
+use Rattle.immediates.specs.Steps.{settled, is_ok}
 
 module _ (f g : ℕ → ℕ) (back : (b : ℕ) → b < 256 → g (f b) ≡ b) where
   pub at_most_one : {b c : ℕ} → b < 256 → c < 256 → f b ≡ f c → b ≡ c
@@ -26,15 +26,15 @@ module _ (f g : ℕ → ℕ) (back : (b : ℕ) → b < 256 → g (f b) ≡ b) wh
       by true e = (h, eqb-true (f (g x)) x e)
       by false e = (refl, none x (eqb-false (f (g x)) x e))
 
-  pub one-said : (x : ℕ) (a a' : Said ℕ) → Spells f x a → Spells f x a' → a ≡ a'
+  pub one_said : (x : ℕ) (a a' : Said ℕ) → Spells f x a → Spells f x a' → a ≡ a'
   unfolding Spells
-  one-said x (ok b) (ok c) s t = ap ok (at_most_one s.0 t.0 (s.1 ∙ sym t.1))
-  one-said x (ok b) (no n) s t = absurd (t.1 b s.0 s.1)
-  one-said x (no m) (ok c) s t = absurd (s.1 c t.0 t.1)
-  one-said x (no m) (no n) s t = ap no (s.0 ∙ sym t.0)
+  one_said x (ok b) (ok c) s t = ap ok (at_most_one s.0 t.0 (s.1 ∙ sym t.1))
+  one_said x (ok b) (no n) s t = absurd (t.1 b s.0 s.1)
+  one_said x (no m) (ok c) s t = absurd (s.1 c t.0 t.1)
+  one_said x (no m) (no n) s t = ap no (s.0 ∙ sym t.0)
 
 -- whether there is an answer
-pub tested : (f : ℕ → ℕ) (x : ℕ) (a : Said ℕ) → Spells f x a → Tests f x (isOk a)
+pub tested : (f : ℕ → ℕ) (x : ℕ) (a : Said ℕ) → Spells f x a → Tests f x (is_ok a)
 unfolding Spells Tests
 tested f x (ok b) s = (b, s.0, s.1)
 tested f x (no n) s = s.1
@@ -46,17 +46,17 @@ module _
     (sum : (b : ℕ) → b < 256 → h b ≡ f b)
     (below : (x : ℕ) → g x < 256)
   where
-    settles-by : (x : ℕ) → Spells f x (settled (g x) (h (g x)) x)
-    settles-by x = rw (sum (g x) (below x)) (settles f g back x (below x))
+    settles_by : (x : ℕ) → Spells f x (settled (g x) (h (g x)) x)
+    settles_by x = rw (sum (g x) (below x)) (settles f g back x (below x))
 
-pub fp16 : (x : ℕ) → Spells (VFPExpandImm 16) x (settled (readFloat 5 10 x) (floatSum 1 6 (readFloat 5 10 x)) x)
-fp16 = settles-by (VFPExpandImm 16) (readFloat 5 10) (floatSum 1 6) back16 sum16 (read_below 5 10)
+pub fp16 : (x : ℕ) → Spells (VFPExpandImm 16) x (settled (read_float 5 10 x) (float_sum 1 6 (read_float 5 10 x)) x)
+fp16 = settles_by (VFPExpandImm 16) (read_float 5 10) (float_sum 1 6) back16 sum16 (read_below 5 10)
 
-pub fp32 : (x : ℕ) → Spells (VFPExpandImm 32) x (settled (readFloat 8 23 x) (floatSum 4 19 (readFloat 8 23 x)) x)
-fp32 = settles-by (VFPExpandImm 32) (readFloat 8 23) (floatSum 4 19) back32 sum32 (read_below 8 23)
+pub fp32 : (x : ℕ) → Spells (VFPExpandImm 32) x (settled (read_float 8 23 x) (float_sum 4 19 (read_float 8 23 x)) x)
+fp32 = settles_by (VFPExpandImm 32) (read_float 8 23) (float_sum 4 19) back32 sum32 (read_below 8 23)
 
-pub fp64 : (x : ℕ) → Spells (VFPExpandImm 64) x (settled (readFloat 11 52 x) (floatSum 7 48 (readFloat 11 52 x)) x)
-fp64 = settles-by (VFPExpandImm 64) (readFloat 11 52) (floatSum 7 48) back64 sum64 (read_below 11 52)
+pub fp64 : (x : ℕ) → Spells (VFPExpandImm 64) x (settled (read_float 11 52 x) (float_sum 7 48 (read_float 11 52 x)) x)
+fp64 = settles_by (VFPExpandImm 64) (read_float 11 52) (float_sum 7 48) back64 sum64 (read_below 11 52)
 
-pub mask : (x : ℕ) → MaskSays x (settled (readMask 8 x) (maskSum 8 (readMask 8 x)) x)
-mask = settles-by ByteMask (readMask 8) (maskSum 8) (mask-back 8) (λ b h. mask-sum 8 b) (read-few 8)
+pub mask : (x : ℕ) → MaskSays x (settled (read_mask 8 x) (mask_sum 8 (read_mask 8 x)) x)
+mask = settles_by ByteMask (read_mask 8) (mask_sum 8) (mask_back 8) (λ b h. mask_sum_lem 8 b) (read_few 8)

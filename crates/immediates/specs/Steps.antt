@@ -7,6 +7,6 @@ abbrev pub settled : ℕ → ℕ → ℕ → Said ℕ
 settled b e x = cond (eqb e x) (ok b) (no 3)
 
 -- there is an answer
-abbrev pub isOk : Said ℕ → Bool
-isOk (ok b) = true
-isOk (no n) = false
+abbrev pub is_ok : Said ℕ → Bool
+is_ok (ok b) = true
+is_ok (no n) = false

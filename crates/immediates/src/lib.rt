@@ -1,14 +1,16 @@
 // Module 8: 8-bit floats at 16, 32 and 64 bits, and byte masks. An encoder reads the 8 bits that a value has to have, expands them, and takes
 // them where that gives the value.
+#![tactic(auto)]
+
 ghost use Rattle.std.specs.Prelude.{◌≡◌, ◌%◌, ◌^◌, ◌<◌};
 ghost use Rattle.arm.specs.Immediates.{VFPExpandImm, ByteMask};
-ghost use Rattle.arm.specs.Imm8.{readMask, maskSum};
+ghost use Rattle.arm.specs.Imm8.{read_mask, mask_sum};
 ghost use Rattle.immediates.specs.Says.{said, Spells, FloatSays, MaskSays, Tests};
-ghost use Rattle.immediates.specs.Steps.{settled, isOk};
+ghost use Rattle.immediates.specs.Steps.{settled, is_ok};
 
 use words::Refusal;
 
-#[derive(Drop)]
+#[derive(Clone, Copy)]
 pub enum Imm8Answer {
     Imm8(u8),
     NoImm8(Refusal),
@@ -26,7 +28,7 @@ fn settle(b: u64, expanded: u64, val: u64) -> Imm8Answer
 }
 
 fn given(a: Imm8Answer) -> bool
-    ensures { result ≡ isOk (said a) }
+    ensures { result ≡ is_ok (said a) }
 {
     match a {
         Imm8Answer::Imm8(_) => true,
@@ -94,7 +96,7 @@ pub fn is_fp64_imm8(val: u64) -> bool
 
 // The lowest bits of four bytes.
 fn read_half(val: u64) -> u64
-    ensures { result ≡ readMask 4 val }
+    ensures { result ≡ read_mask 4 val }
 {
     let b = val / 256;
     let c = b / 256;
@@ -103,14 +105,14 @@ fn read_half(val: u64) -> u64
 }
 
 fn read_byte_mask(val: u64) -> u64
-    ensures { result ≡ readMask 8 val }
+    ensures { result ≡ read_mask 8 val }
 {
     read_half(val) + read_half(val / 0x1_0000_0000) * 16
 }
 
 // Four bytes, each eight times its bit.
 fn expand_half(a: u64) -> u64
-    ensures { result ≡ maskSum 4 a }
+    ensures { result ≡ mask_sum 4 a }
 {
     let b = a / 2;
     let c = b / 2;
@@ -119,7 +121,7 @@ fn expand_half(a: u64) -> u64
 }
 
 fn expand_byte_mask(b: u64) -> u64
-    ensures { result ≡ maskSum 8 b }
+    ensures { result ≡ mask_sum 8 b }
 {
     expand_half(b) + expand_half(b / 16) * 0x1_0000_0000
 }

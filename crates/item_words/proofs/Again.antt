@@ -11,28 +11,28 @@ use borrow.Author.Tests.{ltb-true, lt-ltb}
 use lib.Dec.{ltb}
 use Rattle.arm.specs.Bits.{bits}
 use Rattle.arm.specs.BitMasks.{esize, wmask}
-use Rattle.arm.specs.LogicalImmediate.{Logical, logicalOp, decodeLogical}
+use Rattle.arm.specs.LogicalImmediate.{Logical, logical_op, decode_logical}
 use Rattle.arm.specs.MoveWide.{datasize}
-use Rattle.arm.proofs.Laws.{turn-mask}
+use Rattle.arm.proofs.Laws.{turn_mask}
 use Rattle.arm.proofs.Logical.{spelled, decoded}
 use Rattle.words.specs.Said.{Said, ok}
 use Rattle.logical.specs.Answer.{fields, Encoded}
 use Rattle.logical.specs.declared.LogicalImm.{LogicalImm}
-use Rattle.logical.proofs.Laws.{encoded-one}
+use Rattle.logical.proofs.Laws.{encoded_one}
 use Rattle.logical_decoder.proofs.Laws.{again}
 use Rattle.logical_words.specs.Word.{base_of, placed_of, word_of}
-use Rattle.logical_words.proofs.Word.{word-filled, word-spelled}
+use Rattle.logical_words.proofs.Word.{word_filled, word_spelled}
 use Rattle.wide_moves.proofs.Wides.{Passes, fields_of}
-use Rattle.wide_moves.proofs.Again.{cut, top, wide-again}
+use Rattle.wide_moves.proofs.Again.{cut, top, wide_again}
 use Rattle.items.specs.declared.Item.{Item}
 use Rattle.items.specs.declared.Item.TheVariants as item
-use Rattle.items.specs.Items.{formIn, logicalWord, item_of}
-use Rattle.items.proofs.Forms.{form-has}
-use Rattle.items.proofs.Logicals.{is-width, operation-is, IsLogical, logicalAt}
-use Rattle.items.proofs.Cases.{by-item}
-use Rattle.items.proofs.Readings.{logical-read}
-use Rattle.item_words.specs.Again.{ForItem, turned, againOf, rewritten}
-use Rattle.item_words.proofs.Displaced.{displaced-again}
+use Rattle.items.specs.Items.{form_number, logical_word_item, item_of}
+use Rattle.items.proofs.Forms.{form_has}
+use Rattle.items.proofs.Logicals.{is_width, operation_is, IsLogical, logical_at}
+use Rattle.items.proofs.Cases.{by_item}
+use Rattle.items.proofs.Readings.{logical_read}
+use Rattle.item_words.specs.Again.{ForItem, turned, again_of, rewritten}
+use Rattle.item_words.proofs.Displaced.{displaced_again}
 
 -- ---- a logical immediate, R reduced
 
@@ -54,35 +54,35 @@ module _ (w : ℕ) (l : w < 2 ^ 32) (t : IsLogical w) where
   sum w a b c d e f sf rd rn s r n opc q h1 h2 h3 h4 h5 h6 h7 = omega arith
 
   -- the word with another R is the word of these fields
-  spelled-turned : (k : ℕ) → spelled sf (bits 30 29 w) n k s (bits 9 5 w) (bits 4 0 w) ≡ turned w k
-  spelled-turned k =
+  spelled_turned : (k : ℕ) → spelled sf (bits 30 29 w) n k s (bits 9 5 w) (bits 4 0 w) ≡ turned w k
+  spelled_turned k =
       sum w (w / 2 ^ 5) (w / 2 ^ 10) (w / 2 ^ 16) (w / 2 ^ 22) (w / 2 ^ 23) (w / 2 ^ 29) sf (bits 4 0 w) (bits 9 5 w) s (bits 21 16 w) n (bits 30 29 w) k
       (omega arith) (cut w 5 5) (cut w 10 6) (cut w 16 6) (cut w 22 1) (cut w 23 6 ∙ ap (λ (k : ℕ). w / 2 ^ 29 * 2 ^ 6 + k) t.group)
       (cut w 29 2 ∙ ap (λ (k : ℕ). k * 2 ^ 2 + bits 30 29 w) (top w l))
 
   -- the encoder's answer to the value
-  fields-again : Encoded (datasize sf) (wmask (datasize sf) n s (bits 21 16 w)) (ok (fields n s q))
-  fields-again = again (datasize sf) n s (bits 21 16 w) _ (is-width sf (omega arith), record { legal = t.legal; mask = refl })
+  fields_again : Encoded (datasize sf) (wmask (datasize sf) n s (bits 21 16 w)) (ok (fields n s q))
+  fields_again = again (datasize sf) n s (bits 21 16 w) _ (is_width sf (omega arith), record { legal = t.legal; mask = refl })
 
-  sf-is : datasize sf / 64 ≡ sf
-  sf-is = at sf (omega arith)
+  sf_is : datasize sf / 64 ≡ sf
+  sf_is = at sf (omega arith)
     where
       at : (k : ℕ) → k < 2 → datasize k / 64 ≡ k
       at zero h = refl
       at (suc zero) h = refl
       at (suc (suc k)) h = absurd (omega arith)
 
-  word-again : word_of (bits 30 29 w) (datasize sf) (bits 9 5 w) (bits 4 0 w) (ok (fields n s q)) ≡ ok (turned w q ∷ [])
-  word-again =
-      word-filled (bits 30 29 w) (datasize sf) (bits 9 5 w) (bits 4 0 w) (ok (fields n s q)) (omega arith) (is-width sf (omega arith)) (omega arith) (omega arith)
+  word_again : word_of (bits 30 29 w) (datasize sf) (bits 9 5 w) (bits 4 0 w) (ok (fields n s q)) ≡ ok (turned w q ∷ [])
+  word_again =
+      word_filled (bits 30 29 w) (datasize sf) (bits 9 5 w) (bits 4 0 w) (ok (fields n s q)) (omega arith) (is_width sf (omega arith)) (omega arith) (omega arith)
       ∙ ap (λ (k : ℕ). ok (k ∷ []))
-      (word-spelled (bits 30 29 w) (datasize sf) (bits 9 5 w) (bits 4 0 w) (fields n s q) (omega arith) (is-width sf (omega arith))
-      ∙ ap (λ (k : ℕ). spelled k (bits 30 29 w) n q s (bits 9 5 w) (bits 4 0 w)) sf-is ∙ spelled-turned q)
+      (word_spelled (bits 30 29 w) (datasize sf) (bits 9 5 w) (bits 4 0 w) (fields n s q) (omega arith) (is_width sf (omega arith))
+      ∙ ap (λ (k : ℕ). spelled k (bits 30 29 w) n q s (bits 9 5 w) (bits 4 0 w)) sf_is ∙ spelled_turned q)
 
-  pub logical-again : (P : Said (List ℕ) → Type 0) → ForItem (item.Logical (logicalAt w)) P → P (ok (turned w q ∷ []))
-  logical-again P (a, e, p) =
-      let is : a ≡ ok (fields n s q) = encoded-one _ _ a (ok (fields n s q)) e fields-again in
-      subst P (ap (word_of (bits 30 29 w) (datasize sf) (bits 9 5 w) (bits 4 0 w)) is ∙ word-again) p
+  pub logical_again : (P : Said (List ℕ) → Type 0) → ForItem (item.Logical (logical_at w)) P → P (ok (turned w q ∷ []))
+  logical_again P (a, e, p) =
+      let is : a ≡ ok (fields n s q) = encoded_one _ _ a (ok (fields n s q)) e fields_again in
+      subst P (ap (word_of (bits 30 29 w) (datasize sf) (bits 9 5 w) (bits 4 0 w)) is ∙ word_again) p
 
   -- "and whose normal spelling means the same": it is read as the same operation, width, registers, value, N, S and length, R reduced, and normal
   pub normal-spelling :
@@ -100,13 +100,13 @@ module _ (w : ℕ) (l : w < 2 ^ 32) (t : IsLogical w) where
         normal = true;
       })
   normal-spelling =
-      let d = fields-again in
+      let d = fields_again in
       let m = decoded sf (bits 30 29 w) n q s (bits 9 5 w) (bits 4 0 w) (omega arith) (omega arith) d.1.legal (omega arith) (omega arith) in
-      logical-read (turned w q) _ (ap decodeLogical (sym (spelled-turned q)) ∙ m)
-      ∙ rw (operation-is (bits 30 29 w) (omega arith), same, lt-ltb q (esize n s) d.2)
+      logical_read (turned w q) _ (ap decode_logical (sym (spelled_turned q)) ∙ m)
+      ∙ rw (operation_is (bits 30 29 w) (omega arith), same, lt-ltb q (esize n s) d.2)
     where
       same : wmask (datasize sf) n s q ≡ wmask (datasize sf) n s (bits 21 16 w)
-      same = turn-mask (datasize sf) n s (bits 21 16 w)
+      same = turn_mask (datasize sf) n s (bits 21 16 w)
 
 -- ---- every word
 
@@ -119,20 +119,20 @@ Ordinary (item.Unknown w) = Unit
 
 module _ (w : ℕ) (l : w < 2 ^ 32) where
   -- what is said of any word's item is one word, with R reduced by the element length where it is a logical immediate
-  pub item-again : (P : Said (List ℕ) → Type 0) → ForItem (item_of w) P → P (ok (rewritten w ∷ []))
+  pub item_again : (P : Said (List ℕ) → Type 0) → ForItem (item_of w) P → P (ok (rewritten w ∷ []))
   unfolding rewritten
-  item-again P =
-      by-item w (λ i. ForItem i P → P (ok (againOf w i ∷ [])))
-      (λ t. logical-again w l t P)
-      (λ h. subst P (displaced-again w (formIn w) h (form-has w h)))
+  item_again P =
+      by_item w (λ i. ForItem i P → P (ok (again_of w i ∷ [])))
+      (λ t. logical_again w l t P)
+      (λ h. subst P (displaced_again w (form_number w) h (form_has w h)))
       (λ h p. p)
-      (λ p. subst P (wide-again w l p))
+      (λ p. subst P (wide_again w l p))
 
   -- "Every word accepted, written again from its own fields, is the same word, except logical fields with a large R"
   pub same_word : Ordinary (item_of w) → rewritten w ≡ w
   unfolding rewritten
   same_word =
-      by-item w (λ i. Ordinary i → againOf w i ≡ w)
+      by_item w (λ i. Ordinary i → again_of w i ≡ w)
       (λ t e. rw (mod-eq_of_lt {n = bits 21 16 w} {m = esize (bits 22 22 w) (bits 15 10 w)} (ltb-true _ _ e)) (omega arith))
       (λ h _. refl)
       (λ h _. refl)

@@ -12,7 +12,7 @@ use Rattle.logical.proofs.Laws.{one_from}
 use Rattle.items.specs.declared.Item.{Item}
 use Rattle.items.specs.declared.Item.TheVariants as item
 use Rattle.item_words.specs.Again.{ForItem}
-use Rattle.item_words.proofs.write_item.Reads as write-item
+use Rattle.item_words.proofs.write_item.Reads as write_item
 
 same : (i : Item) (r s : Worded) → ForItem i (λ x. made r ≡ packed x) → ForItem i (λ x. made s ≡ packed x) → r ≡ s
 same (item.Wide m) r s p q = made_all r s (one_answer p q)
@@ -20,5 +20,5 @@ same (item.Logical l) r s p q = made_all r s (one_from p q)
 same (item.Displaced d) r s p q = made_all r s (one_answer p q)
 same (item.Unknown w) r s p q = made_all r s (one_answer p q)
 
-pub write-item-determined : OneAnswer write-item.Post
-write-item-determined k a r s x y p q = same a.0 r s p q
+pub write_item_determined : OneAnswer write_item.Post
+write_item_determined k a r s x y p q = same a.0 r s p q

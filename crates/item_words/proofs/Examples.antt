@@ -1,12 +1,12 @@
 -- Worked values: what words are written again as. Assumes nothing.
 use mathlib.Core.Path.{refl}
 use mathlib.Core.List.{[], ◌∷◌}
-use Rattle.arm.specs.BitMasks.{highestSetBit, len, esize}
-use Rattle.arm.specs.LogicalImmediate.{defined, decodeLogical}
+use Rattle.arm.specs.BitMasks.{highest_set_bit, len, esize}
+use Rattle.arm.specs.LogicalImmediate.{defined, decode_logical}
 use Rattle.arm.specs.MoveWide.{decode}
 use Rattle.arm.proofs.Worked.{Worked}
-use Rattle.forms.specs.Form.{hasForm}
-use Rattle.items.specs.Items.{formIn, other_of, item_of}
+use Rattle.forms.specs.Form.{is_of_form}
+use Rattle.items.specs.Items.{form_number, other_of, item_of}
 use Rattle.item_words.specs.Again.{rewritten}
 
 pub again :
@@ -18,5 +18,5 @@ pub again :
     ∷ (rewritten 0x17FFFFFF, 0x17FFFFFF)  -- b.-4
     ∷ (rewritten 0xD503201F, 0xD503201F)  -- nop
     ∷ [])
-unfolding rewritten item_of decode other_of decodeLogical defined len highestSetBit esize formIn hasForm
+unfolding rewritten item_of decode other_of decode_logical defined len highest_set_bit esize form_number is_of_form
 again = refl

@@ -1,4 +1,6 @@
 // Request a of document 02: an item written again from its own fields, by the entries that write words.
+#![tactic(auto)]
+
 ghost use Rattle.std.specs.Prelude.{◌≡◌};
 ghost use Rattle.words.specs.Answer.{made};
 ghost use Rattle.words.specs.Listed.{packed};

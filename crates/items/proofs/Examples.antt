@@ -5,14 +5,14 @@ use mathlib.Core.List.{[], ◌∷◌}
 use Prim.Native.Nat.{ℕ}
 use lib.IntN.{ℤ, pos, negsuc}
 use Rattle.arm.specs.Bits.{Replicate}
-use Rattle.arm.specs.BitMasks.{highestSetBit, len, esize, wmask}
-use Rattle.arm.specs.LogicalImmediate.{defined, decodeLogical}
+use Rattle.arm.specs.BitMasks.{highest_set_bit, len, esize, wmask}
+use Rattle.arm.specs.LogicalImmediate.{defined, decode_logical}
 use Rattle.arm.specs.MoveWide.{decode}
 use Rattle.arm.proofs.Worked.{Worked}
-use Rattle.forms.specs.Form.{hasForm}
+use Rattle.forms.specs.Form.{is_of_form}
 use Rattle.items.specs.declared.Item.{Item}
 use Rattle.items.specs.declared.Item.TheVariants as item
-use Rattle.items.specs.Items.{opc, formIn, other_of, item_of}
+use Rattle.items.specs.Items.{opc, form_number, other_of, item_of}
 
 abbrev wide : (sf opc hw imm16 rd : ℕ) → Item
 wide sf opc hw imm16 rd = item.Wide (record { sf = sf; opc = opc; hw = hw; imm16 = imm16; rd = rd })
@@ -35,7 +35,7 @@ pub moves :
     ∷ (item_of 0x52C00000, unknown 0x52C00000)  -- halfword 2 at size 32
     ∷ (item_of 0xB2800000, unknown 0xB2800000)  -- opc 01
     ∷ [])
-unfolding item_of decode other_of decodeLogical formIn hasForm
+unfolding item_of decode other_of decode_logical form_number is_of_form
 moves = refl
 
 pub logicals :
@@ -48,7 +48,7 @@ pub logicals :
     ∷ (item_of 0x9200FC00, unknown 0x9200FC00)  -- no element length
     ∷ (item_of 0x9240FC00, unknown 0x9240FC00)  -- all ones
     ∷ [])
-unfolding item_of decode other_of decodeLogical defined len highestSetBit esize wmask Replicate formIn hasForm
+unfolding item_of decode other_of decode_logical defined len highest_set_bit esize wmask Replicate form_number is_of_form
 logicals = refl
 
 pub displacements :
@@ -66,5 +66,5 @@ pub displacements :
     ∷ (item_of 0xDC000000, unknown 0xDC000000)  -- LDR literal with opc 11 and V 1
     ∷ (item_of 0xD503201F, unknown 0xD503201F)  -- nop
     ∷ [])
-unfolding item_of decode other_of decodeLogical formIn hasForm
+unfolding item_of decode other_of decode_logical form_number is_of_form
 displacements = refl

@@ -9,30 +9,30 @@ use borrow.Author.Tests.{eq-eqb, ne_eqb, eqb-true, eqb-false, ltb-true, ltb-fals
 use lib.Dec.{eqb, ltb}
 use Rattle.arm.specs.Bits.{bits}
 use Rattle.arm.specs.BitMasks.{IsWidth, Legal, esize, wmask}
-use Rattle.arm.specs.LogicalImmediate.{Logical, logicalOp, defined, decodeLogical}
+use Rattle.arm.specs.LogicalImmediate.{Logical, logical_op, defined, decode_logical}
 use Rattle.arm.specs.MoveWide.{datasize}
 use Rattle.arm.proofs.Fields.{not_short}
-use Rattle.arm.proofs.Logical.{defined-exactly}
+use Rattle.arm.proofs.Logical.{defined_exactly}
 use Rattle.words.specs.Said.{ok, no}
-use Rattle.logical.proofs.Laws.{not-refused}
+use Rattle.logical.proofs.Laws.{not_refused}
 use Rattle.logical_decoder.specs.Answer.{Decoded}
 use Rattle.items.specs.declared.Item.{Item}
 use Rattle.items.specs.declared.Item.TheVariants as item
 use Rattle.items.specs.declared.LogicalWord.{LogicalWord}
-use Rattle.items.specs.Items.{formIn, displacedOf, operationOf, logicalOr, other_of}
+use Rattle.items.specs.Items.{form_number, displaced_of, operation_of, logical_or, other_of}
 
-pub is-width : (sf : ℕ) → sf < 2 → IsWidth (datasize sf)
-is-width zero l = inl refl
-is-width (suc zero) l = inr refl
-is-width (suc (suc s)) l = absurd (omega arith)
+pub is_width : (sf : ℕ) → sf < 2 → IsWidth (datasize sf)
+is_width zero l = inl refl
+is_width (suc zero) l = inr refl
+is_width (suc (suc s)) l = absurd (omega arith)
 
 -- document 01's numbers of the operations are Arm's opc
-pub operation-is : (k : ℕ) → k < 4 → operationOf (logicalOp k) ≡ k
-operation-is zero l = refl
-operation-is (suc zero) l = refl
-operation-is (suc (suc zero)) l = refl
-operation-is (suc (suc (suc zero))) l = refl
-operation-is (suc (suc (suc (suc k)))) l = absurd (omega arith)
+pub operation_is : (k : ℕ) → k < 4 → operation_of (logical_op k) ≡ k
+operation_is zero l = refl
+operation_is (suc zero) l = refl
+operation_is (suc (suc zero)) l = refl
+operation_is (suc (suc (suc zero))) l = refl
+operation_is (suc (suc (suc (suc k)))) l = absurd (omega arith)
 
 -- a logical immediate to Arm
 pub record IsLogical (w : ℕ) : Type 0 where
@@ -40,8 +40,8 @@ pub record IsLogical (w : ℕ) : Type 0 where
   pub legal : Legal (datasize (bits 31 31 w)) (bits 22 22 w) (bits 15 10 w) (bits 21 16 w)
 
 -- what it is
-abbrev pub logicalAt : ℕ → LogicalWord
-logicalAt w =
+abbrev pub logical_at : ℕ → LogicalWord
+logical_at w =
     let n = bits 22 22 w in
     let s = bits 15 10 w in
     let r = bits 21 16 w in
@@ -62,44 +62,44 @@ module _ (w : ℕ) where
   abbrev allowed : Bool
   allowed = defined (datasize (bits 31 31 w)) (bits 22 22 w) (bits 15 10 w)
 
-  legal-is : (allowed ≡ true → Legal (datasize (bits 31 31 w)) (bits 22 22 w) (bits 15 10 w) (bits 21 16 w))
+  legal_is : (allowed ≡ true → Legal (datasize (bits 31 31 w)) (bits 22 22 w) (bits 15 10 w) (bits 21 16 w))
       × (Legal (datasize (bits 31 31 w)) (bits 22 22 w) (bits 15 10 w) (bits 21 16 w) → allowed ≡ true)
-  legal-is = defined-exactly (datasize (bits 31 31 w)) (bits 22 22 w) (bits 15 10 w) (bits 21 16 w) (omega arith) (omega arith) (omega arith)
+  legal_is = defined_exactly (datasize (bits 31 31 w)) (bits 22 22 w) (bits 15 10 w) (bits 21 16 w) (omega arith) (omega arith) (omega arith)
 
   -- ---- where it is none
 
-  none_is : decodeLogical w ≡ none → other_of w ≡ displacedOf w (formIn w)
+  none_is : decode_logical w ≡ none → other_of w ≡ displaced_of w (form_number w)
   unfolding other_of
-  none_is e = ap (λ (a : Option Logical). logicalOr a (displacedOf w (formIn w))) e
+  none_is e = ap (λ (a : Option Logical). logical_or a (displaced_of w (form_number w))) e
 
-  pub other-group : (bits 28 23 w ≡ 0b100100 → ⊥) → other_of w ≡ displacedOf w (formIn w)
-  unfolding decodeLogical
-  other-group h = none_is (simp (ne_eqb (bits 28 23 w) 0b100100 h))
+  pub other_group : (bits 28 23 w ≡ 0b100100 → ⊥) → other_of w ≡ displaced_of w (form_number w)
+  unfolding decode_logical
+  other_group h = none_is (simp (ne_eqb (bits 28 23 w) 0b100100 h))
 
-  pub no-mask : bits 28 23 w ≡ 0b100100 → (Legal (datasize (bits 31 31 w)) (bits 22 22 w) (bits 15 10 w) (bits 21 16 w) → ⊥) → other_of w ≡ displacedOf w (formIn w)
-  unfolding decodeLogical
-  no-mask g h = none_is (rw (eq-eqb (bits 28 23 w) 0b100100 g) (go allowed refl _))
+  pub no_mask : bits 28 23 w ≡ 0b100100 → (Legal (datasize (bits 31 31 w)) (bits 22 22 w) (bits 15 10 w) (bits 21 16 w) → ⊥) → other_of w ≡ displaced_of w (form_number w)
+  unfolding decode_logical
+  no_mask g h = none_is (rw (eq-eqb (bits 28 23 w) 0b100100 g) (go allowed refl _))
     where
       go : (b : Bool) → allowed ≡ b → (x : Option Logical) → cond b x none ≡ none
-      go true e x = absurd (h (legal-is.0 e))
+      go true e x = absurd (h (legal_is.0 e))
       go false e x = refl
 
   -- ---- where it is one
 
-  pub is-logical : IsLogical w → other_of w ≡ item.Logical (logicalAt w)
-  unfolding other_of decodeLogical
-  is-logical l = rw (eq-eqb (bits 28 23 w) 0b100100 l.group, legal-is.1 l.legal, operation-is (bits 30 29 w) (omega arith))
+  pub is_logical : IsLogical w → other_of w ≡ item.Logical (logical_at w)
+  unfolding other_of decode_logical
+  is_logical l = rw (eq-eqb (bits 28 23 w) 0b100100 l.group, legal_is.1 l.legal, operation_is (bits 30 29 w) (omega arith))
 
-  pub logical-cases : (other_of w ≡ displacedOf w (formIn w)) ⊎ IsLogical w
-  logical-cases = go (eqb (bits 28 23 w) 0b100100) refl allowed refl
+  pub logical_cases : (other_of w ≡ displaced_of w (form_number w)) ⊎ IsLogical w
+  logical_cases = go (eqb (bits 28 23 w) 0b100100) refl allowed refl
     where
       never : {A : Type 0} → true ≡ false → A
       never q = let z : ◌≡◌ {A = ℕ} 0 1 = cc in absurd (omega arith)
 
-      go : (a : Bool) → eqb (bits 28 23 w) 0b100100 ≡ a → (b : Bool) → allowed ≡ b → (other_of w ≡ displacedOf w (formIn w)) ⊎ IsLogical w
-      go false p b q = inl (other-group (eqb-false _ _ p))
-      go true p true q = inr (record { group = eqb-true _ _ p; legal = legal-is.0 q })
-      go true p false q = inl (no-mask (eqb-true _ _ p) (λ l. never (sym (legal-is.1 l) ∙ q)))
+      go : (a : Bool) → eqb (bits 28 23 w) 0b100100 ≡ a → (b : Bool) → allowed ≡ b → (other_of w ≡ displaced_of w (form_number w)) ⊎ IsLogical w
+      go false p b q = inl (other_group (eqb-false _ _ p))
+      go true p true q = inr (record { group = eqb-true _ _ p; legal = legal_is.0 q })
+      go true p false q = inl (no_mask (eqb-true _ _ p) (λ l. never (sym (legal_is.1 l) ∙ q)))
 
   -- ---- by the answer of the decoder of masks
 
@@ -111,13 +111,13 @@ module _ (w : ℕ) where
       at (suc zero) l = refl
       at (suc (suc s)) l = absurd (omega arith)
 
-  pub mask-none : bits 28 23 w ≡ 0b100100 → (k : ℕ) → Decoded (32 + bits 31 31 w * 32) (bits 22 22 w) (bits 15 10 w) (bits 21 16 w) (no k)
-      → displacedOf w (formIn w) ≡ other_of w
-  mask-none g k h = sym (no-mask g (λ legal. not-refused (is-width (bits 31 31 w) (omega arith)) (λ none. none legal) (rw size_is at h)))
+  pub mask_none : bits 28 23 w ≡ 0b100100 → (k : ℕ) → Decoded (32 + bits 31 31 w * 32) (bits 22 22 w) (bits 15 10 w) (bits 21 16 w) (no k)
+      → displaced_of w (form_number w) ≡ other_of w
+  mask_none g k h = sym (no_mask g (λ legal. not_refused (is_width (bits 31 31 w) (omega arith)) (λ none. none legal) (rw size_is at h)))
 
   module _ {v : ℕ} (h : Decoded (32 + bits 31 31 w * 32) (bits 22 22 w) (bits 15 10 w) (bits 21 16 w) (ok v)) where
-    pub mask-long : 2 ≤ bits 22 22 w * 64 + (63 - bits 15 10 w)
-    mask-long = go (ltb (bits 22 22 w * 64 + (63 - bits 15 10 w)) 2) refl
+    pub mask_long : 2 ≤ bits 22 22 w * 64 + (63 - bits 15 10 w)
+    mask_long = go (ltb (bits 22 22 w * 64 + (63 - bits 15 10 w)) 2) refl
       where
         go : (b : Bool) → ltb (bits 22 22 w * 64 + (63 - bits 15 10 w)) 2 ≡ b → 2 ≤ bits 22 22 w * 64 + (63 - bits 15 10 w)
         go true e = absurd (not_short h.1.legal (ltb-true _ _ e))
@@ -139,4 +139,4 @@ module _ (w : ℕ) where
     mask_is g {e} q =
         let m = rw size_is at h in
         let d : bits 4 0 w ≡ w % 32 = omega arith in
-        sym (is-logical (record { group = g; legal = m.1.legal }) ∙ rw (d, m.1.mask, q, size_is))
+        sym (is_logical (record { group = g; legal = m.1.legal }) ∙ rw (d, m.1.mask, q, size_is))

@@ -10,31 +10,31 @@ use Rattle.wide_moves.specs.declared.WideAnswer.TheVariants.{NoMove}
 use Rattle.wide_moves.proofs.Wides as wides
 use Rattle.items.specs.declared.Item.TheVariants as item
 use Rattle.items.specs.Items.{opc, item_of}
-use Rattle.items.proofs.Forms.{form-none}
-use Rattle.items.proofs.Logicals.{other-group, no-mask}
-use Rattle.items.proofs.Cases.{itemed-other}
+use Rattle.items.proofs.Forms.{form_none}
+use Rattle.items.proofs.Logicals.{other_group, no_mask}
+use Rattle.items.proofs.Cases.{itemed_other}
 
 -- a logical immediate whose fields Arm leaves undefined; N = 1 at width 32 among them
-pub unknown-mask : (w : ℕ) → bits 28 23 w ≡ 0b100100 → (Legal (datasize (bits 31 31 w)) (bits 22 22 w) (bits 15 10 w) (bits 21 16 w) → ⊥)
+pub unknown_mask : (w : ℕ) → bits 28 23 w ≡ 0b100100 → (Legal (datasize (bits 31 31 w)) (bits 22 22 w) (bits 15 10 w) (bits 21 16 w) → ⊥)
     → item_of w ≡ item.Unknown (opc w)
-unknown-mask w g h =
-    let six = form-none w (omega arith) in
-    sym (itemed-other w (wides.other-group w (λ k. omega arith))) ∙ no-mask w g h ∙ rw (← six)
+unknown_mask w g h =
+    let six = form_none w (omega arith) in
+    sym (itemed_other w (wides.other_group w (λ k. omega arith))) ∙ no_mask w g h ∙ rw (← six)
 
 module _ (w : ℕ) (g : bits 28 23 w ≡ 0b100101) where
-  unknown-move : NoMove ≡ wide_of (decode w) → item_of w ≡ item.Unknown (opc w)
-  unknown-move e =
-      let six = form-none w (omega arith) in
-      sym (itemed-other w e) ∙ other-group w (λ k. omega arith) ∙ rw (← six)
+  unknown_move : NoMove ≡ wide_of (decode w) → item_of w ≡ item.Unknown (opc w)
+  unknown_move e =
+      let six = form_none w (omega arith) in
+      sym (itemed_other w e) ∙ other_group w (λ k. omega arith) ∙ rw (← six)
 
   -- "a wide move to register 31 is unknown"
-  pub unknown-31 : bits 22 21 w < 2 + 2 * bits 31 31 w → (bits 30 29 w ≡ 1 → ⊥) → w % 32 ≡ 31 → item_of w ≡ item.Unknown (opc w)
-  unknown-31 h n r = unknown-move (wides.read-31 w g h n r)
+  pub unknown_31 : bits 22 21 w < 2 + 2 * bits 31 31 w → (bits 30 29 w ≡ 1 → ⊥) → w % 32 ≡ 31 → item_of w ≡ item.Unknown (opc w)
+  unknown_31 h n r = unknown_move (wides.read_31 w g h n r)
 
   -- at size 32 with halfword 2 or 3
-  pub unknown-size : 2 + 2 * bits 31 31 w ≤ bits 22 21 w → item_of w ≡ item.Unknown (opc w)
-  unknown-size h = unknown-move (wides.past-size w h)
+  pub unknown_size : 2 + 2 * bits 31 31 w ≤ bits 22 21 w → item_of w ≡ item.Unknown (opc w)
+  unknown_size h = unknown_move (wides.past_size w h)
 
   -- opc 01
-  pub unknown-opc : bits 30 29 w ≡ 1 → item_of w ≡ item.Unknown (opc w)
-  unknown-opc h = unknown-move (wides.no-opc w h)
+  pub unknown_opc : bits 30 29 w ≡ 1 → item_of w ≡ item.Unknown (opc w)
+  unknown_opc h = unknown_move (wides.no_opc w h)

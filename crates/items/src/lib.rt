@@ -1,8 +1,10 @@
 // Request a of document 02: what one word is to Arm, among the instructions that this port writes: a wide move, a logical immediate, a displacement,
 // or unknown.
+#![tactic(auto)]
+
 ghost use Rattle.std.specs.Prelude.{◌≡◌, ◌+◌, ◌-◌, ◌*◌, ◌≤◌};
 ghost use Rattle.arm.specs.BitMasks.{esize};
-ghost use Rattle.items.specs.Items.{formIn, displacedOf, other_of, item_of};
+ghost use Rattle.items.specs.Items.{form_number, displaced_of, other_of, item_of};
 
 use displacements::DistanceAnswer;
 use logical_decoder::MaskAnswer;
@@ -11,7 +13,7 @@ use words::{ByteDistance, Opc};
 
 // A logical immediate: operation 0 AND, 1 ORR, 2 EOR, 3 ANDS; the value at its width; the fields N, S and R that spell it, and the element length. It
 // is normal if R is below the element length.
-#[derive(Drop)]
+#[derive(Clone, Copy)]
 pub struct LogicalWord {
     pub operation: u32,
     pub width: u32,
@@ -26,7 +28,7 @@ pub struct LogicalWord {
 }
 
 // A displacement: the format, the word with its field empty, and the distance.
-#[derive(Drop)]
+#[derive(Clone, Copy)]
 pub struct Displacement {
     pub format: u32,
     pub base: Opc,
@@ -34,7 +36,7 @@ pub struct Displacement {
 }
 
 // What one word is.
-#[derive(Drop)]
+#[derive(Clone, Copy)]
 pub enum Item {
     Wide(WideMove),
     Logical(LogicalWord),
@@ -44,7 +46,7 @@ pub enum Item {
 
 // The format whose form a word has; 6 where it has none's.
 fn form_in(w: Opc) -> u32
-    ensures { result ≡ formIn w.0 }
+    ensures { result ≡ form_number w.0 }
 {
     if forms::of_form(0, w) {
         return 0;
@@ -69,7 +71,7 @@ fn form_in(w: Opc) -> u32
 
 // A displacement, or unknown.
 fn displaced(w: Opc) -> Item
-    ensures { result ≡ displacedOf w.0 (formIn w.0) }
+    ensures { result ≡ displaced_of w.0 (form_number w.0) }
 {
     let format = form_in(w);
     match displacements::read_disp(w, format) {

@@ -1,8 +1,10 @@
 // Request b of document 02: uses of labels that wait in three lent runs of numbers, and how they are finished. What is decided of one use stands in
 // `label_uses`.
+#![tactic(auto)]
+
 ghost use Rattle.std.specs.Prelude.{◌≡◌, [], ◌≤◌, length, take};
-ghost use Rattle.labels.specs.Sheet.{useAt, checkOf, filled, finishOf, countSaid};
-ghost use Rattle.label_runs.specs.Flat.{usesOf, among, useRuns};
+ghost use Rattle.labels.specs.Sheet.{use_record, check_of, filled, finish_of, count_said};
+ghost use Rattle.label_runs.specs.Flat.{uses_of, among, use_runs};
 
 use labels::{Counted, Use};
 use words::Place;
@@ -32,8 +34,8 @@ fn check(
     words: &[u32],
     at: Place,
 ) -> u32
-    requires { n ≤ length (usesOf marks.now ats.now formats.now) }
-    ensures { result ≡ checkOf at labels.now words.now [] (take n (usesOf marks.now ats.now formats.now)) }
+    requires { n ≤ length (uses_of marks.now ats.now formats.now) }
+    ensures { result ≡ check_of at labels.now words.now [] (take n (uses_of marks.now ats.now formats.now)) }
 {
     let mut i = 0;
     while i < n {
@@ -62,8 +64,8 @@ fn write(
     words: &mut [u32],
     at: Place,
 )
-    requires { (n ≤ length (usesOf marks.now ats.now formats.now)) × (checkOf at labels.now words.old [] (take n (usesOf marks.now ats.now formats.now)) ≡ 0) }
-    ensures { words.new ≡ filled at labels.now words.old (take n (usesOf marks.now ats.now formats.now)) }
+    requires { (n ≤ length (uses_of marks.now ats.now formats.now)) × (check_of at labels.now words.old [] (take n (uses_of marks.now ats.now formats.now)) ≡ 0) }
+    ensures { words.new ≡ filled at labels.now words.old (take n (uses_of marks.now ats.now formats.now)) }
 {
     let mut i = 0;
     while i < n {
@@ -80,7 +82,7 @@ fn write(
 
 // So many uses the three runs have room for.
 fn room(marks: &[u32], ats: &[usize], formats: &[u32]) -> usize
-    ensures { result ≡ length (usesOf marks.now ats.now formats.now) }
+    ensures { result ≡ length (uses_of marks.now ats.now formats.now) }
 {
     words::least(words::least(marks.len(), ats.len()), formats.len())
 }
@@ -97,7 +99,7 @@ pub fn use_flat(
     at: Place,
     format: u32,
 ) -> Counted
-    ensures { (countSaid result, (marks.new, (ats.new, formats.new))) ≡ useRuns labels.now words.now (marks.old, (ats.old, formats.old)) n at (useAt label at format) }
+    ensures { (count_said result, (marks.new, (ats.new, formats.new))) ≡ use_runs labels.now words.now (marks.old, (ats.old, formats.old)) n at (use_record label at format) }
 {
     let u = Use {
         label,
@@ -127,7 +129,7 @@ pub fn finish_flat(
     words: &mut [u32],
     at: Place,
 ) -> Counted
-    ensures { (countSaid result, words.new) ≡ finishOf at labels.now words.old (usesOf marks.now ats.now formats.now) n }
+    ensures { (count_said result, words.new) ≡ finish_of at labels.now words.old (uses_of marks.now ats.now formats.now) n }
 {
     let early = labels::may_finish(at, n, room(marks, ats, formats));
     if early != 0 {

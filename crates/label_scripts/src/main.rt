@@ -1,13 +1,15 @@
 // The scripts of stdin, calls on labels one after the other, which the oracle's model answered: stdout is what it said. The table, the sheet in three
 // runs and the run of words are made here. A call is 40 bytes, five numbers of 8 bytes, low byte first: its kind, the base, the label, the position
 // and the format.
+#![tactic(auto)]
+
 ghost use Rattle.std.specs.Prelude.{◌<◌, ◌≤◌};
 ghost use Rattle.io.specs.Counts.{IsPrefixLen};
 
 use labels::{Binding, Counted};
 use words::{Address, Place, Refusal, WordPos};
 
-#[derive(Drop)]
+#[derive(Clone, Copy)]
 struct Call {
     kind: u64,
     base: u64,
@@ -17,7 +19,7 @@ struct Call {
 }
 
 // So many entries of the table, uses of the sheet and words of the run are lent, and so many uses wait.
-#[derive(Drop)]
+#[derive(Clone, Copy)]
 struct Book {
     labels: usize,
     uses: usize,

@@ -41,6 +41,6 @@ pub zero_is : (r : ℕ) → Holds (not (not (eqb r 0))) → r ≡ 0
 zero_is r t = eqb→eq r 0 (not-not (eqb r 0) t)
 
 -- a place's value has its type
-pub place-typed : {M : Type 1} {𝓤 : Ura M} (𝓛 : Logic 𝓤) → (pl : Place) → Is P.the_row pl (P'.lowered pl ∷ [])
+pub place_typed : {M : Type 1} {𝓤 : Ura M} (𝓛 : Logic 𝓤) → (pl : Place) → Is P.the_row pl (P'.lowered pl ∷ [])
     → Holds (has_ty P'.mir (P'.lowered pl)) × WT (P'.lowered pl)
-place-typed 𝓛 pl gp = ((LL.lawful P.the_type P'.the_laws 𝓛).typed pl (P'.lowered pl ∷ []) gp).0
+place_typed 𝓛 pl gp = ((LL.lawful P.the_type P'.the_laws 𝓛).typed pl (P'.lowered pl ∷ []) gp).0

@@ -1,9 +1,11 @@
 // Request b of document 02: uses of labels that wait in a lent sheet, a slice of use records, and how they are finished. The functions over the sheet
 // fetch and store; what is decided of one use stands in `label_uses`, and of the numbers that they carry in the small functions here.
+#![tactic(auto)]
+
 ghost use Rattle.std.specs.Prelude.{◌≡◌, [], ◌≤◌, length, take};
-ghost use Rattle.labels.specs.Order.{orThen};
-ghost use Rattle.labels.specs.Sheet.{names, useAt, useOf, checkOf, filled, finishOf, countSaid};
-ghost use Rattle.label_sheets.specs.Private.{passedOf, addedOf};
+ghost use Rattle.labels.specs.Order.{or_else};
+ghost use Rattle.labels.specs.Sheet.{names, use_record, use_of, check_of, filled, finish_of, count_said};
+ghost use Rattle.label_sheets.specs.Private.{passed_of, added_of};
 
 use labels::{Counted, Use};
 use words::Place;
@@ -26,7 +28,7 @@ fn named(uses: &[Use], n: usize, k: usize) -> bool
 // The number of the first refusal among the first n uses, in the sheet's order, 0 for none.
 fn check_uses(uses: &[Use], n: usize, labels: &[usize], words: &[u32], at: Place) -> u32
     requires { n ≤ length uses.now }
-    ensures { result ≡ checkOf at labels.now words.now [] (take n uses.now) }
+    ensures { result ≡ check_of at labels.now words.now [] (take n uses.now) }
 {
     let mut i = 0;
     while i < n {
@@ -43,7 +45,7 @@ fn check_uses(uses: &[Use], n: usize, labels: &[usize], words: &[u32], at: Place
 
 // The words of the first n uses, which passed the check.
 fn write_uses(uses: &[Use], n: usize, labels: &[usize], words: &mut [u32], at: Place)
-    requires { (n ≤ length uses.now) × (checkOf at labels.now words.old [] (take n uses.now) ≡ 0) }
+    requires { (n ≤ length uses.now) × (check_of at labels.now words.old [] (take n uses.now) ≡ 0) }
     ensures { words.new ≡ filled at labels.now words.old (take n uses.now) }
 {
     let mut i = 0;
@@ -58,14 +60,14 @@ fn write_uses(uses: &[Use], n: usize, labels: &[usize], words: &mut [u32], at: P
 
 // So many uses go on: n, or none after a refusal.
 fn passed(n: usize, r: u32) -> usize
-    ensures { result ≡ passedOf n r }
+    ensures { result ≡ passed_of n r }
 {
     if r == 0 { n } else { 0 }
 }
 
 // Of two numbers the first that refuses.
 fn or_then(r: u32, s: u32) -> u32
-    ensures { result ≡ orThen r s }
+    ensures { result ≡ or_else r s }
 {
     if r == 0 { s } else { r }
 }
@@ -73,7 +75,7 @@ fn or_then(r: u32, s: u32) -> u32
 // Every use's word is written, and none waits; or nothing changes: 15, 14, then each use 7, 12, 8, 11, 6, 16, 4, 5. The base is the record's; its
 // position is not asked for. There is no branch: after a refusal no use is written.
 pub fn finish(uses: &[Use], n: usize, labels: &[usize], words: &mut [u32], at: Place) -> Counted
-    ensures { (countSaid result, words.new) ≡ finishOf at labels.now words.old uses.now n }
+    ensures { (count_said result, words.new) ≡ finish_of at labels.now words.old uses.now n }
 {
     let early = labels::may_finish(at, n, uses.len());
     let m = passed(n, early);
@@ -86,7 +88,7 @@ pub fn finish(uses: &[Use], n: usize, labels: &[usize], words: &mut [u32], at: P
 
 // The use of a label by the word at a place, at a format.
 fn use_at(label: u32, at: Place, format: u32) -> Use
-    ensures { result ≡ useAt label at format }
+    ensures { result ≡ use_record label at format }
 {
     Use {
         label,
@@ -97,7 +99,7 @@ fn use_at(label: u32, at: Place, format: u32) -> Use
 
 // What a use answers, with n before it and the number of its refusal. Where nothing refuses there was room, so that n + 1 is a number.
 fn added(n: usize, r: u32) -> Counted
-    ensures { countSaid result ≡ addedOf n r }
+    ensures { count_said result ≡ added_of n r }
 {
     if n < usize::MAX {
         labels::answered(n + 1, r)
@@ -116,7 +118,7 @@ pub fn use_label(
     at: Place,
     format: u32,
 ) -> Counted
-    ensures { (countSaid result, uses.new) ≡ useOf labels.now words.now uses.old n at (useAt label at format) }
+    ensures { (count_said result, uses.new) ≡ use_of labels.now words.now uses.old n at (use_record label at format) }
 {
     let u = use_at(label, at, format);
     let there = uses.len();

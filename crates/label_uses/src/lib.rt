@@ -1,10 +1,12 @@
 // Request b of document 02: what is decided of one use of a label, by value: whether it is taken, whether it has a word, and the word.
+#![tactic(auto)]
+
 ghost use Rattle.std.specs.Prelude.{◌≡◌, ◌+◌, ◌<◌, get_or};
-ghost use Rattle.words.specs.Place.{address_of, base_of, placeAt};
+ghost use Rattle.words.specs.Place.{address_of, base_of, place_at};
 ghost use Rattle.words.specs.Listed.{packed};
-ghost use Rattle.disp_targets.specs.Target.{low_of, carrying, wordSaid};
+ghost use Rattle.disp_targets.specs.Target.{low_of, carrying, word_said};
 ghost use Rattle.labels.specs.Order.{first};
-ghost use Rattle.labels.specs.Sheet.{roomIn, baseTests, mayUse, target, madeFrom, number_in, wordNumber, fixed_of};
+ghost use Rattle.labels.specs.Sheet.{room_for, base_tests, use_refusal, target, made_from, number_in, word_number, fixed_of};
 
 use disp_targets::TargetWord;
 use labels::Use;
@@ -29,7 +31,7 @@ fn target_of(labels: &[usize], u: Use) -> usize
 // Why a word is no base of a format, 0 where it is one: 11, 6. At distance 0 module 7 tests nothing else.
 fn base_number(format: u32, base: Opc) -> u32
     requires { format < 6 }
-    ensures { result ≡ first (baseTests format base.0) 0 }
+    ensures { result ≡ first (base_tests format base.0) 0 }
 {
     match displacements::disp_word(format, base, ByteDistance(0)) {
         Worded::Made(_) => 0,
@@ -48,7 +50,7 @@ pub fn may_use(
     n: usize,
     there: usize,
 ) -> u32
-    ensures { result ≡ mayUse labels.now words.now at u again (roomIn there (n + 1)) }
+    ensures { result ≡ use_refusal labels.now words.now at u again (room_for there (n + 1)) }
 {
     let i = u.at;
     if !labels::is_aligned(at) {
@@ -78,7 +80,7 @@ pub fn may_use(
 
 // The place of a position at another place's base.
 fn moved(at: Place, position: usize) -> Place
-    ensures { result ≡ placeAt (base_of at) position }
+    ensures { result ≡ place_at (base_of at) position }
 {
     Place {
         base: Address(at.base.0),
@@ -88,7 +90,7 @@ fn moved(at: Place, position: usize) -> Place
 
 // Module 7's word of a use over its base word.
 fn made_word(labels: &[usize], at: Place, u: Use, base: u32) -> TargetWord
-    ensures { wordSaid result ≡ carrying (low_of u.format (address_of (placeAt (base_of at) (target labels.now u)))) (packed (madeFrom at labels.now u base)) }
+    ensures { word_said result ≡ carrying (low_of u.format (address_of (place_at (base_of at) (target labels.now u)))) (packed (made_from at labels.now u base)) }
 {
     let target = words::address_of(moved(at, target_of(labels, u)));
     disp_targets::disp_target_word(
@@ -101,7 +103,7 @@ fn made_word(labels: &[usize], at: Place, u: Use, base: u32) -> TargetWord
 
 // The number of its refusal, 0 for none.
 fn made_number(w: TargetWord) -> u32
-    ensures { result ≡ number_in (wordSaid w) }
+    ensures { result ≡ number_in (word_said w) }
 {
     match w {
         TargetWord::Word(_) => 0,
@@ -112,7 +114,7 @@ fn made_number(w: TargetWord) -> u32
 
 // Why a use has no word, 0 where it has one: 7, 12, 8, 11, 6, 16, 4, 5. `named` says that an earlier use names the word.
 pub fn use_number(labels: &[usize], words: &[u32], at: Place, u: Use, named: bool) -> u32
-    ensures { result ≡ wordNumber at labels.now words.now named u }
+    ensures { result ≡ word_number at labels.now words.now named u }
 {
     let k = u.at;
     if 6 <= u.format {

@@ -2,9 +2,9 @@
 use Rattle.std.specs.Prelude.{ℕ}
 
 -- "labels 0 to 255"
-abbrev pub labelLimit : ℕ
-labelLimit = 256
+abbrev pub label_limit : ℕ
+label_limit = 256
 
 -- "at most 1,024 pending"
-abbrev pub useLimit : ℕ
-useLimit = 1024
+abbrev pub use_limit : ℕ
+use_limit = 1024

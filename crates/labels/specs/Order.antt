@@ -8,9 +8,9 @@ first [] k = k
 first (t ∷ ts) k = cond t.0 (first ts k) t.1
 
 -- of two numbers the first that refuses; 0 refuses nothing
-abbrev pub orThen : ℕ → ℕ → ℕ
-orThen zero k = k
-orThen (suc r) k = suc r
+abbrev pub or_else : ℕ → ℕ → ℕ
+or_else zero k = k
+or_else (suc r) k = suc r
 
 -- what is said, and what was lent as it then is: where nothing refuses x and the new; else the number and the old
 abbrev pub answer : {A B : Type 0} → ℕ → A → B → B → Said A × B

@@ -1,8 +1,10 @@
 // Request b of document 02: labels that are bound late. A label's entry in the lent table is 0 where it is unbound, and one more than its word
 // position where it is bound. Here are labels, how many uses may wait, and what a call answers; what is decided of one use stands in `label_uses`.
+#![tactic(auto)]
+
 ghost use Rattle.std.specs.Prelude.{◌≡◌, ◌+◌};
 ghost use Rattle.labels.specs.Order.{first};
-ghost use Rattle.labels.specs.Sheet.{aligned, isLabel, roomIn, bindOf, finishTests, bindingSaid, countSaid, countedOf};
+ghost use Rattle.labels.specs.Sheet.{aligned, names_label, room_for, bind_of, finish_tests, binding_said, count_said, counted_of};
 
 use words::{Place, Refusal};
 
@@ -13,7 +15,7 @@ const USES: usize = 1024;
 
 // A word that waits for a label: the word at position `at` gets the distance to the label, at a format. A host lends a run of these.
 #[repr(C)]
-#[derive(Drop)]
+#[derive(Clone, Copy)]
 pub struct Use {
     pub label: u32,
     pub at: usize,
@@ -21,14 +23,14 @@ pub struct Use {
 }
 
 // What binding answers.
-#[derive(Drop)]
+#[derive(Clone, Copy)]
 pub enum Binding {
     Bound,
     NotBound(Refusal),
 }
 
 // How many uses wait after a call, or why nothing changed.
-#[derive(Drop)]
+#[derive(Clone, Copy)]
 pub enum Counted {
     Count(usize),
     Kept(Refusal),
@@ -36,7 +38,7 @@ pub enum Counted {
 
 // Whether there is a label of this number in the table.
 pub fn is_label(labels: &[usize], label: u32) -> bool
-    ensures { result ≡ isLabel labels.now label }
+    ensures { result ≡ names_label labels.now label }
 {
     let l = label as usize;
     if LABELS <= l {
@@ -54,7 +56,7 @@ pub fn is_aligned(at: Place) -> bool
 
 // A label is bound to a place: 15, 12, 13, 8.
 pub fn bind(labels: &mut [usize], words: &[u32], label: u32, at: Place) -> Binding
-    ensures { (bindingSaid result, labels.new) ≡ bindOf labels.old words.now label at }
+    ensures { (binding_said result, labels.new) ≡ bind_of labels.old words.now label at }
 {
     let l = label as usize;
     let p = at.position.0;
@@ -76,7 +78,7 @@ pub fn bind(labels: &mut [usize], words: &[u32], label: u32, at: Place) -> Bindi
 
 // Whether a sheet with room for `there` uses, of which n wait, takes one more.
 pub fn has_room(n: usize, there: usize) -> bool
-    ensures { result ≡ roomIn there (n + 1) }
+    ensures { result ≡ room_for there (n + 1) }
 {
     if USES <= n {
         return false;
@@ -86,7 +88,7 @@ pub fn has_room(n: usize, there: usize) -> bool
 
 // Why n uses of a sheet with room for `there` are not looked at, 0 where they are: 15, 14.
 pub fn may_finish(at: Place, n: usize, there: usize) -> u32
-    ensures { result ≡ first (finishTests at there n) 0 }
+    ensures { result ≡ first (finish_tests at there n) 0 }
 {
     if !is_aligned(at) {
         return words::number(Refusal::Unaligned);
@@ -102,7 +104,7 @@ pub fn may_finish(at: Place, n: usize, there: usize) -> u32
 
 // What a call answers: so many uses that wait, where the number refuses nothing; else the refusal that has the number.
 pub fn answered(n: usize, r: u32) -> Counted
-    ensures { countSaid result ≡ countedOf n r }
+    ensures { count_said result ≡ counted_of n r }
 {
     if r == 0 {
         return Counted::Count(n);

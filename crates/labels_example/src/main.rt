@@ -1,6 +1,8 @@
 // An overlay's loop with labels that are bound late, over a sheet in three runs: an exit forward, a branch back, all six formats, and between them
 // calls that are refused. A line for each call, then the words in hex. As a program at the base it ends with 35: the data at the odd counts 5, 3 and
 // 1, and twice more, each time reached another way.
+#![tactic(auto)]
+
 ghost use Rattle.std.specs.Prelude.{◌<◌};
 
 use labels::{Binding, Counted};
@@ -51,7 +53,7 @@ const USE: u32 = 1;
 const FINISH: u32 = 2;
 
 // A call: what is called, the base, the label, the position and the format.
-#[derive(Drop)]
+#[derive(Clone, Copy)]
 struct Call(u32, u64, u32, usize, u32);
 
 const CALLS: [Call; 29] = [

@@ -7,42 +7,42 @@ use native.Mathlib.Omega.{arith}
 use borrow.Author.Tests.{lt-ltb, le-ltb, ltb-true, ltb-false}
 use lib.Dec.{ltb}
 use lib.ListN.{length, length-append}
-use Rattle.lines.specs.Text.{digit, decimalIn, decimal}
+use Rattle.lines.specs.Text.{digit, decimal_in, decimal}
 
 -- a hex digit with no test
-pub digit-is : (d : ℕ) → d < 16 → 48 + d + d / 10 * 39 ≡ digit d
-digit-is d h = go (ltb d 10) refl
+pub digit_is : (d : ℕ) → d < 16 → 48 + d + d / 10 * 39 ≡ digit d
+digit_is d h = go (ltb d 10) refl
   where
     go : (b : Bool) → ltb d 10 ≡ b → 48 + d + d / 10 * 39 ≡ digit d
     go true t = let l = ltb-true d 10 t in simp (lt-ltb d 10 l) (omega arith)
     go false t = let l = ltb-false d 10 t in simp (le-ltb d 10 l) (omega arith)
 
 -- one digit's room less is enough for a number that has them all
-fewer : (k n : ℕ) → n < 10 ^ suc k → decimalIn (suc k) n ≡ decimalIn (suc (suc k)) n
+fewer : (k n : ℕ) → n < 10 ^ suc k → decimal_in (suc k) n ≡ decimal_in (suc (suc k)) n
 fewer zero n h = let l : n < 10 = omega arith in simp (lt-ltb n 10 l)
 fewer (suc k) n h = ap (λ (t : List ℕ). cond (ltb n 10) ((48 + n) ∷ []) (t ++ ((48 + n % 10) ∷ []))) (fewer k (n / 10) (omega arith))
 
-short-decimal : (k n : ℕ) → length (decimalIn k n) ≤ k
-short-decimal zero n = omega arith
-short-decimal (suc k) n = go (short-decimal k (n / 10)) (ltb n 10)
+short_decimal : (k n : ℕ) → length (decimal_in k n) ≤ k
+short_decimal zero n = omega arith
+short_decimal (suc k) n = go (short_decimal k (n / 10)) (ltb n 10)
   where
-    go : length (decimalIn k (n / 10)) ≤ k → (b : Bool) → length (cond b ((48 + n) ∷ []) (decimalIn k (n / 10) ++ ((48 + n % 10) ∷ []))) ≤ suc k
+    go : length (decimal_in k (n / 10)) ≤ k → (b : Bool) → length (cond b ((48 + n) ∷ []) (decimal_in k (n / 10) ++ ((48 + n % 10) ∷ []))) ≤ suc k
     go h true = omega arith
     go h false = simp length-append (omega arith)
 
-pub decimal-one : (n : ℕ) → n < 10 → decimal n ≡ (48 + n) ∷ []
+pub decimal_one : (n : ℕ) → n < 10 → decimal n ≡ (48 + n) ∷ []
 unfolding decimal
-decimal-one n h = simp (lt-ltb n 10 h)
+decimal_one n h = simp (lt-ltb n 10 h)
 
-pub decimal-more : (n : ℕ) → 10 ≤ n → n < 2 ^ 64 → decimal n ≡ decimal (n / 10) ++ ((48 + n % 10) ∷ [])
+pub decimal_more : (n : ℕ) → 10 ≤ n → n < 2 ^ 64 → decimal n ≡ decimal (n / 10) ++ ((48 + n % 10) ∷ [])
 unfolding decimal
-decimal-more n h f = simp (le-ltb n 10 h) (ap (λ (t : List ℕ). t ++ ((48 + n % 10) ∷ [])) (fewer 18 (n / 10) (omega arith)))
+decimal_more n h f = simp (le-ltb n 10 h) (ap (λ (t : List ℕ). t ++ ((48 + n % 10) ∷ [])) (fewer 18 (n / 10) (omega arith)))
 
 -- a tenth has a digit less
-pub short-tenth : (n : ℕ) → n < 2 ^ 64 → length (decimal (n / 10)) ≤ 19
+pub short_tenth : (n : ℕ) → n < 2 ^ 64 → length (decimal (n / 10)) ≤ 19
 unfolding decimal
-short-tenth n f = rw (← fewer 18 (n / 10) (omega arith)) (short-decimal 19 (n / 10))
+short_tenth n f = rw (← fewer 18 (n / 10) (omega arith)) (short_decimal 19 (n / 10))
 
-pub short-all : (n : ℕ) → length (decimal n) ≤ 20
+pub short_all : (n : ℕ) → length (decimal n) ≤ 20
 unfolding decimal
-short-all n = short-decimal 20 n
+short_all n = short_decimal 20 n

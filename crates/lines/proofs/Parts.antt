@@ -9,14 +9,14 @@ use borrow.Author.Tests.{le-leb, lt-leb, leb-true, leb-false}
 use lib.Dec.{leb}
 use lib.ListN.{length, length-append}
 use lib.Seq.{sets, length-sets}
-use Rattle.words.proofs.Runs.{sets-append}
-use Rattle.lines.specs.Parts.{Part, text, number, word, bytes_of, most_of, part_at, parts_at, bytesOfAll, mostOfAll}
+use Rattle.words.proofs.Runs.{sets_append}
+use Rattle.lines.specs.Parts.{Part, text, number, word, bytes_of, most_of, part_at, parts_at, bytes_of_all, most_of_all}
 use Rattle.lines.specs.Steps.{Put}
-use Rattle.lines.proofs.Digits.{short-all}
+use Rattle.lines.proofs.Digits.{short_all}
 
 -- room by a difference, as the code has it
-pub room-is : (room at most : ℕ) → at ≤ room → leb most (room - at) ≡ leb (at + most) room
-room-is room at most h = go (leb most (room - at)) refl
+pub room_is : (room at most : ℕ) → at ≤ room → leb most (room - at) ≡ leb (at + most) room
+room_is room at most h = go (leb most (room - at)) refl
   where
     go : (b : Bool) → leb most (room - at) ≡ b → b ≡ leb (at + most) room
     go true e = let l = leb-true most (room - at) e in sym (le-leb (at + most) room (omega arith))
@@ -36,17 +36,17 @@ module _ {b : Bool} {m n : ℕ} (e : b ≡ leb m n) where
 -- no part is longer than the room that is asked for
 pub any_part : (p : Part) → length (bytes_of p) ≤ most_of p
 any_part (text t) = omega arith
-any_part (number n) = short-all n
+any_part (number n) = short_all n
 any_part (word w) = omega arith
 
 module _ (o : List ℕ) (at : ℕ) (p : Part) where
-  pub part-fits : at + most_of p ≤ length o → part_at o at p ≡ (at + length (bytes_of p), sets o at (bytes_of p))
+  pub part_fits : at + most_of p ≤ length o → part_at o at p ≡ (at + length (bytes_of p), sets o at (bytes_of p))
   unfolding part_at
-  part-fits h = simp (le-leb (at + most_of p) (length o) h)
+  part_fits h = simp (le-leb (at + most_of p) (length o) h)
 
-  pub part-full : length o < at + most_of p → part_at o at p ≡ (at, o)
+  pub part_full : length o < at + most_of p → part_at o at p ≡ (at, o)
   unfolding part_at
-  part-full h = simp (lt-leb (at + most_of p) (length o) h)
+  part_full h = simp (lt-leb (at + most_of p) (length o) h)
 
   -- the run keeps its length
   pub part_same : length (part_at o at p).1 ≡ length o
@@ -58,31 +58,31 @@ module _ (o : List ℕ) (at : ℕ) (p : Part) where
       go false = refl
 
   -- what a writer put where there is room
-  pub part-is : {m r : ℕ} {o' : List ℕ} → at + most_of p ≤ length o → Put m o at (bytes_of p) r o' → ◌≡◌ {A = ℕ × List ℕ} (r, o') (part_at o at p)
-  part-is {o' = o'} h q =
-      ap (λ (k : ℕ). (k, o')) q.past ∙ ap (λ (l : List ℕ). (at + length (bytes_of p), l)) q.holds ∙ sym (part-fits h)
+  pub part_is : {m r : ℕ} {o' : List ℕ} → at + most_of p ≤ length o → Put m o at (bytes_of p) r o' → ◌≡◌ {A = ℕ × List ℕ} (r, o') (part_at o at p)
+  part_is {o' = o'} h q =
+      ap (λ (k : ℕ). (k, o')) q.past ∙ ap (λ (l : List ℕ). (at + length (bytes_of p), l)) q.holds ∙ sym (part_fits h)
 
 -- all parts, one behind the other
-pub parts-fit : (ps : List Part) (o : List ℕ) (at : ℕ) → at + mostOfAll ps ≤ length o → parts_at (at, o) ps ≡ (at + length (bytesOfAll ps), sets o at (bytesOfAll ps))
+pub parts_fit : (ps : List Part) (o : List ℕ) (at : ℕ) → at + most_of_all ps ≤ length o → parts_at (at, o) ps ≡ (at + length (bytes_of_all ps), sets o at (bytes_of_all ps))
 unfolding parts_at
-parts-fit [] o at h = ap (λ (k : ℕ). (k, o)) (sym (add-zero at))
-parts-fit (p ∷ ps) o at h =
+parts_fit [] o at h = ap (λ (k : ℕ). (k, o)) (sym (add-zero at))
+parts_fit (p ∷ ps) o at h =
     let v = bytes_of p in
-    let e = part-fits o at p (omega arith) in
-    let rest = parts-fit ps (sets o at v) (at + length v) (simp length-sets (omega (arith, any_part p))) in
-    let n : at + length v + length (bytesOfAll ps) ≡ at + length (v ++ bytesOfAll ps) = simp length-append (omega arith) in
-    ap (λ (q : ℕ × List ℕ). parts_at q ps) e ∙ rest ∙ ap (λ (k : ℕ). (k, sets (sets o at v) (at + length v) (bytesOfAll ps))) n
-    ∙ ap (λ (l : List ℕ). (at + length (v ++ bytesOfAll ps), l)) (sym (sets-append v (bytesOfAll ps) o at))
+    let e = part_fits o at p (omega arith) in
+    let rest = parts_fit ps (sets o at v) (at + length v) (simp length-sets (omega (arith, any_part p))) in
+    let n : at + length v + length (bytes_of_all ps) ≡ at + length (v ++ bytes_of_all ps) = simp length-append (omega arith) in
+    ap (λ (q : ℕ × List ℕ). parts_at q ps) e ∙ rest ∙ ap (λ (k : ℕ). (k, sets (sets o at v) (at + length v) (bytes_of_all ps))) n
+    ∙ ap (λ (l : List ℕ). (at + length (v ++ bytes_of_all ps), l)) (sym (sets_append v (bytes_of_all ps) o at))
 
 pub parts_same : (ps : List Part) (q : ℕ × List ℕ) → length (parts_at q ps).1 ≡ length q.1
 unfolding parts_at
 parts_same [] q = refl
 parts_same (p ∷ ps) q = parts_same ps (part_at q.1 q.0 p) ∙ part_same q.1 q.0 p
 
-pub parts-append : (ps qs : List Part) (q : ℕ × List ℕ) → parts_at q (ps ++ qs) ≡ parts_at (parts_at q ps) qs
+pub parts_append : (ps qs : List Part) (q : ℕ × List ℕ) → parts_at q (ps ++ qs) ≡ parts_at (parts_at q ps) qs
 unfolding parts_at
-parts-append [] qs q = refl
-parts-append (p ∷ ps) qs q = parts-append ps qs (part_at q.1 q.0 p)
+parts_append [] qs q = refl
+parts_append (p ∷ ps) qs q = parts_append ps qs (part_at q.1 q.0 p)
 
 -- ---- what one call after the other leaves
 
@@ -96,12 +96,12 @@ module _ (o : List ℕ) (at : ℕ) (x : Part) {p : ℕ × List ℕ} (e : p ≡ p
   before ps f = f ∙ ap (λ (q : ℕ × List ℕ). parts_at q ps) e
 
 pub then : (q : ℕ × List ℕ) (ls bs : List Part) {p r : ℕ × List ℕ} → p ≡ parts_at q ls → r ≡ parts_at p bs → r ≡ parts_at q (ls ++ bs)
-then q ls bs e f = f ∙ ap (λ (x : ℕ × List ℕ). parts_at x bs) e ∙ sym (parts-append ls bs q)
+then q ls bs e f = f ∙ ap (λ (x : ℕ × List ℕ). parts_at x bs) e ∙ sym (parts_append ls bs q)
 
 -- the run keeps its length
 pub kept : (o : List ℕ) (at : ℕ) (ps : List Part) {o' : List ℕ} {r : ℕ} → ◌≡◌ {A = ℕ × List ℕ} (r, o') (parts_at (at, o) ps) → length o' ≡ length o
 kept o at ps e = ap (λ (q : ℕ × List ℕ). length q.1) e ∙ parts_same ps (at, o)
 
-pub short-parts : (ps : List Part) → length (bytesOfAll ps) ≤ mostOfAll ps
-short-parts [] = omega arith
-short-parts (p ∷ ps) = omega (arith, any_part p, short-parts ps, length-append (bytes_of p) (bytesOfAll ps))
+pub short_parts : (ps : List Part) → length (bytes_of_all ps) ≤ most_of_all ps
+short_parts [] = omega arith
+short_parts (p ∷ ps) = omega (arith, any_part p, short_parts ps, length-append (bytes_of p) (bytes_of_all ps))

@@ -8,18 +8,18 @@ use borrow.Author.Tests.{lt-ltb}
 use lib.Dec.{ltb}
 use lib.ListN.{length, take, length-append}
 use lib.Seq.{sets, take-nil}
-use Rattle.words.proofs.Runs.{sets-append}
+use Rattle.words.proofs.Runs.{sets_append}
 use Rattle.lines.specs.Item.{Item}
 use Rattle.lines.specs.Text.{spaced, text_of, line_at}
 use Rattle.lines.specs.Steps.{Put, part}
-use Rattle.lines.proofs.Lines.{line-fits}
+use Rattle.lines.proofs.Lines.{line_fits}
 
 module _ {o o' : List ℕ} {at r : ℕ} {a : List ℕ} where
   -- one list after the other
   pub puts : (m n : ℕ) {o'' : List ℕ} {r' : ℕ} {b : List ℕ} → Put m o at a r o' → Put n o' r b r' o'' → Put (m + n) o at (a ++ b) r' o''
   puts m n {b = b} p q = record {
     past = q.past ∙ ap (λ (k : ℕ). k + length b) p.past ∙ simp length-append (omega arith);
-    holds = q.holds ∙ ap (λ (l : List ℕ). sets l r b) p.holds ∙ ap (λ (k : ℕ). sets (sets o at a) k b) p.past ∙ sym (sets-append a b o at);
+    holds = q.holds ∙ ap (λ (l : List ℕ). sets l r b) p.holds ∙ ap (λ (k : ℕ). sets (sets o at a) k b) p.past ∙ sym (sets_append a b o at);
     same = q.same ∙ p.same;
     short = omega arith;
   }
@@ -42,10 +42,10 @@ pub line-is : {m : ℕ} {o o' : List ℕ} {at r : ℕ} (i : Item) → at + 96 �
 line-is {o = o} {o' = o'} {at = at} i h p =
     let e : text_of i ++ [] ≡ text_of i = append-nil (text_of i) in
     ap (λ (k : ℕ). (k, o')) p.past ∙ ap (λ (l : List ℕ). (at + length (text_of i), l)) p.holds
-    ∙ ap (λ (t : List ℕ). (at + length t, sets o at t)) (sym e) ∙ sym (line-fits o at (i ∷ []) h)
+    ∙ ap (λ (t : List ℕ). (at + length t, sets o at t)) (sym e) ∙ sym (line_fits o at (i ∷ []) h)
 
-pub line-none : (o : List ℕ) (at : ℕ) → at + 96 ≤ length o → ◌≡◌ {A = ℕ × List ℕ} (at, o) (line_at o at [])
-line-none o at h = ap (λ (k : ℕ). (k, o)) (sym (add-zero at)) ∙ sym (line-fits o at [] h)
+pub line_none : (o : List ℕ) (at : ℕ) → at + 96 ≤ length o → ◌≡◌ {A = ℕ × List ℕ} (at, o) (line_at o at [])
+line_none o at h = ap (λ (k : ℕ). (k, o)) (sym (add-zero at)) ∙ sym (line_fits o at [] h)
 
 -- a list of up to four, number by number
 pub parts : (f : ℕ → List ℕ) (n a b c d : ℕ)

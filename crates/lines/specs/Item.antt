@@ -9,7 +9,7 @@ pub data Item : Type 0 where
   words : List ℕ → Item
   numbers : List ℕ → Item
   no : ℕ → Item
-  badMark : ℕ → Item
+  bad_mark : ℕ → Item
   cut_at : ℕ → Item
 
 -- at most one line
@@ -18,5 +18,5 @@ items_of Nothing = []
 items_of (Words f) = words (list_of f) ∷ []
 items_of (Numbers f) = numbers (list_of f) ∷ []
 items_of (No r) = no (number_of r) ∷ []
-items_of (BadMark o) = badMark o ∷ []
+items_of (BadMark o) = bad_mark o ∷ []
 items_of (Cut o) = cut_at o ∷ []

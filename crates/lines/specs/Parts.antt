@@ -28,10 +28,10 @@ unfoldable pub parts_at : ℕ × List ℕ → List Part → ℕ × List ℕ
 parts_at q [] = q
 parts_at q (p ∷ ps) = parts_at (part_at q.1 q.0 p) ps
 
-abbrev pub bytesOfAll : List Part → List ℕ
-bytesOfAll [] = []
-bytesOfAll (p ∷ ps) = bytes_of p ++ bytesOfAll ps
+abbrev pub bytes_of_all : List Part → List ℕ
+bytes_of_all [] = []
+bytes_of_all (p ∷ ps) = bytes_of p ++ bytes_of_all ps
 
-abbrev pub mostOfAll : List Part → ℕ
-mostOfAll [] = 0
-mostOfAll (p ∷ ps) = most_of p + mostOfAll ps
+abbrev pub most_of_all : List Part → ℕ
+most_of_all [] = 0
+most_of_all (p ∷ ps) = most_of p + most_of_all ps

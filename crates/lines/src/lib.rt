@@ -1,17 +1,19 @@
 // An answer by value into the bytes of its line, in a lent run of bytes. One function tests the room, for the longest line; the writers
 // below it test nothing, and each says which bytes it put and the place past them. Lines of other programs are put by their parts, each with a test of
 // its own.
+#![tactic(auto)]
+
 ghost use Rattle.std.specs.Prelude.{◌≡◌, [], ◌∷◌, ◌++◌, ◌+◌, ◌≤◌, ◌<◌, leb, length};
 ghost use Rattle.words.specs.Listed.{list_of};
 ghost use Rattle.lines.specs.Item.{items_of};
-ghost use Rattle.lines.specs.Text.{digit, hex4, hex8, decimal, spaced, okText, lineEnd, line_at};
+ghost use Rattle.lines.specs.Text.{digit, hex4, hex8, decimal, spaced, ok_text, line_end, line_at};
 ghost use Rattle.lines.specs.Steps.{Put, spell, part};
 ghost use Rattle.lines.specs.Parts.{text, number, word, part_at};
 
 use words::{Refusal, Words};
 
 // What a line says; nothing has no line.
-#[derive(Drop)]
+#[derive(Clone, Copy)]
 pub enum Answer {
     Nothing,
     Words(Words),
@@ -118,7 +120,7 @@ fn put_text(out: &mut [u8], at: usize, text: &[u8]) -> usize
 // `ok`, a list and the line's end.
 fn put_ok(out: &mut [u8], at: usize, hex: bool, f: Words) -> usize
     requires { at + 87 ≤ length out.old }
-    ensures { Put 87 out.old at (okText ++ (spaced (spell hex) (list_of f) ++ lineEnd)) result out.new }
+    ensures { Put 87 out.old at (ok_text ++ (spaced (spell hex) (list_of f) ++ line_end)) result out.new }
 {
     let p = put_byte(out, at, 111);
     let q = put_byte(out, p, 107);
@@ -129,7 +131,7 @@ fn put_ok(out: &mut [u8], at: usize, hex: bool, f: Words) -> usize
 // A text, a space and a number, and the line's end.
 fn put_about(out: &mut [u8], at: usize, text: &[u8], n: u64) -> usize
     requires { (at + 34 ≤ length out.old) × (length text.now ≤ 12) }
-    ensures { Put 34 out.old at (text.now ++ ((32 ∷ decimal n) ++ lineEnd)) result out.new }
+    ensures { Put 34 out.old at (text.now ++ ((32 ∷ decimal n) ++ line_end)) result out.new }
 {
     let p = put_text(out, at, text);
     let q = put_number(out, p, n);

@@ -1,14 +1,16 @@
 // Module 3's encoder: the fields N, S and R that spell a logical immediate, with the element length. Arm's DecodeBitMasks says what fields mean.
+#![tactic(auto)]
+
 ghost use Rattle.std.specs.Prelude.{◌≡◌, ◌%◌, ◌^◌, ◌≤◌, ◌<◌};
 ghost use Rattle.std.specs.Int.Count.{count_trailing_zeros};
 ghost use Rattle.arm.specs.Bits.{ROR};
-ghost use Rattle.logical.specs.Answer.{fieldsSaid, Encoded};
+ghost use Rattle.logical.specs.Answer.{fields_said, Encoded};
 ghost use Rattle.logical.specs.Run.{Found, spelling, Evened};
 
 use words::Refusal;
 
 // The fields N, S and R, and the length of the element that repeats, in bits.
-#[derive(Drop)]
+#[derive(Clone, Copy)]
 pub struct LogicalImm {
     pub n: u32,
     pub s: u32,
@@ -16,14 +18,14 @@ pub struct LogicalImm {
     pub length: u32,
 }
 
-#[derive(Drop)]
+#[derive(Clone, Copy)]
 pub enum LogicalAnswer {
     Fields(LogicalImm),
     NoFields(Refusal),
 }
 
 // An even value as copies of an element of e bits, in which l ones stand p places up.
-#[derive(Drop)]
+#[derive(Clone, Copy)]
 enum RunAnswer {
     Run { e: u32, p: u32, l: u32 },
     NoRun,
@@ -90,7 +92,7 @@ fn spell(e: u32, l: u32, r: u32) -> LogicalImm
 }
 
 fn encode_64(v: u64) -> LogicalAnswer
-    ensures { Encoded 64 v (fieldsSaid result) }
+    ensures { Encoded 64 v (fields_said result) }
 {
     match find_run(evened(v)) {
         RunAnswer::Run { e, p, l } => {
@@ -107,7 +109,7 @@ fn encode_64(v: u64) -> LogicalAnswer
 // At width 32 the value stands twice in 64 bits, and an element of 64 bits does not serve.
 fn encode_32(v: u64) -> LogicalAnswer
     requires { v < 2 ^ 32 }
-    ensures { Encoded 32 v (fieldsSaid result) }
+    ensures { Encoded 32 v (fields_said result) }
 {
     match encode_64(v * 4294967297) {
         LogicalAnswer::Fields(f) => {
@@ -123,7 +125,7 @@ fn encode_32(v: u64) -> LogicalAnswer
 
 // The fields that spell the low bits of a value.
 pub fn encode_logical_imm(imm: u64, width: u32) -> LogicalAnswer
-    ensures { Encoded width imm (fieldsSaid result) }
+    ensures { Encoded width imm (fields_said result) }
 {
     match width {
         32 => encode_32(imm % 4294967296),

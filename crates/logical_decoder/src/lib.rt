@@ -1,15 +1,17 @@
 // Module 4: the value that the fields N, S and R spell, and the same fields in normal form. Arm's DecodeBitMasks says what fields mean.
+#![tactic(auto)]
+
 ghost use Rattle.std.specs.Prelude.{◌≡◌, ℕ, ◌+◌, ◌/◌, ◌%◌, ◌^◌, ◌≤◌, ◌<◌};
 ghost use Rattle.arm.specs.Bits.{Ones, ROR, Replicate};
-ghost use Rattle.arm.specs.BitMasks.{IsWidth, highestSetBit};
+ghost use Rattle.arm.specs.BitMasks.{IsWidth, highest_set_bit};
 ghost use Rattle.arm.specs.Elements.{Element, runs};
-ghost use Rattle.logical.specs.Answer.{fieldsSaid};
-ghost use Rattle.logical_decoder.specs.Answer.{maskSaid, Decoded, Normal};
+ghost use Rattle.logical.specs.Answer.{fields_said};
+ghost use Rattle.logical_decoder.specs.Answer.{mask_said, Decoded, Normal};
 
 use logical::LogicalAnswer;
 use words::Refusal;
 
-#[derive(Drop)]
+#[derive(Clone, Copy)]
 pub enum MaskAnswer {
     Mask(u64),
     NoMask(Refusal),
@@ -18,7 +20,7 @@ pub enum MaskAnswer {
 // The highest power of two in x.
 fn top_bit(x: u32) -> u32
     requires { (2 ≤ x) × (x < 128) }
-    ensures { result ≡ 2 ^ highestSetBit 6 x }
+    ensures { result ≡ 2 ^ highest_set_bit 6 x }
 {
     1 << (31 - u32::leading_zeros(x))
 }
@@ -68,7 +70,7 @@ fn mask_of(e: u32, l: u32, q: u32, w: u32) -> u64
 
 fn decode_at(n: u32, s: u32, r: u32, w: u32) -> MaskAnswer
     requires { IsWidth w × (w ≤ 64) × (0 < w) }
-    ensures { Decoded w n s r (maskSaid result) }
+    ensures { Decoded w n s r (mask_said result) }
 {
     if 1 < n {
         return MaskAnswer::NoMask(Refusal::NoField);
@@ -96,7 +98,7 @@ fn decode_at(n: u32, s: u32, r: u32, w: u32) -> MaskAnswer
 
 // The value that fields spell.
 pub fn decode_logical_imm(n: u32, s: u32, r: u32, width: u32) -> MaskAnswer
-    ensures { Decoded width n s r (maskSaid result) }
+    ensures { Decoded width n s r (mask_said result) }
 {
     match width {
         32 | 64 => decode_at(n, s, r, width),
@@ -106,7 +108,7 @@ pub fn decode_logical_imm(n: u32, s: u32, r: u32, width: u32) -> MaskAnswer
 
 // The same value in normal form, with the element length: decoded, then encoded.
 pub fn normalise(n: u32, s: u32, r: u32, width: u32) -> LogicalAnswer
-    ensures { Normal width n s r (fieldsSaid result) }
+    ensures { Normal width n s r (fields_said result) }
 {
     match decode_logical_imm(n, s, r, width) {
         MaskAnswer::Mask(m) => logical::encode_logical_imm(m, width),

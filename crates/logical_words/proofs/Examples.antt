@@ -5,11 +5,11 @@ use mathlib.Core.List.{List, [], ◌∷◌}
 use Prim.Native.Nat.{ℕ}
 use Rattle.arm.proofs.Worked.{Worked}
 use Rattle.words.specs.Said.{Said, ok, no}
-use Rattle.logical.proofs.Model.{encodeOf}
+use Rattle.logical.proofs.Model.{encode_of}
 use Rattle.logical_words.specs.Word.{word_of}
 
 abbrev word_for : (operation v w rn rd : ℕ) → Said (List ℕ)
-word_for operation v w rn rd = word_of operation w rn rd (encodeOf w v)
+word_for operation v w rn rd = word_of operation w rn rd (encode_of w v)
 
 pub words :
     Worked
@@ -28,5 +28,5 @@ pub words :
     ∷ (word_for 3 5 64 31 32, no 2)
     ∷ (word_for 3 5 64 31 31, no 3)
     ∷ [])
-unfolding word_of encodeOf
+unfolding word_of encode_of
 words = refl

@@ -1,4 +1,6 @@
 // Module 3's logical word: an operation, two registers and the fields of a value in one instruction word.
+#![tactic(auto)]
+
 ghost use Rattle.std.specs.Prelude.{◌≡◌, ◌%◌, ◌^◌, ◌≤◌};
 ghost use Rattle.arm.specs.BitMasks.{IsWidth};
 ghost use Rattle.words.specs.Answer.{said, made};

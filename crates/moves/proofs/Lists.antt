@@ -12,8 +12,8 @@ use lib.Seq.{set_at, append_snoc}
 use Rattle.words.specs.Listed.{words_of}
 use Rattle.words.specs.declared.Words.{Words}
 use Rattle.halfwords.specs.Halfwords.{half}
-use Rattle.moves.specs.Moves.{word, movz, movn, movk, unless, others, rest, byMovz, byMovn}
-use Rattle.moves.specs.Steps.{firstBase, first_word, lead}
+use Rattle.moves.specs.Moves.{word, movz, movn, movk, unless, others, rest, by_movz, by_movn}
+use Rattle.moves.specs.Steps.{first_base, first_word, lead}
 
 -- ---- the halfwords that are not f
 
@@ -21,9 +21,9 @@ use Rattle.moves.specs.Steps.{firstBase, first_word, lead}
 abbrev pub part : ℕ → ℕ → ℕ → List (ℕ × ℕ)
 part f k j = cond (eqb j f) [] ((k, j) ∷ [])
 
-pub others-parts : (f v : ℕ) → part f 0 (half v 0) ++ part f 1 (half v 1) ++ part f 2 (half v 2) ++ part f 3 (half v 3) ≡ others f v
+pub others_parts : (f v : ℕ) → part f 0 (half v 0) ++ part f 1 (half v 1) ++ part f 2 (half v 2) ++ part f 3 (half v 3) ≡ others f v
 unfolding others
-others-parts f v = sym (on 0 (half v 0) _ (on 1 (half v 1) _ (on 2 (half v 2) _ (on 3 (half v 3) [] refl))) ∙ simp (append_assoc, append-nil))
+others_parts f v = sym (on 0 (half v 0) _ (on 1 (half v 1) _ (on 2 (half v 2) _ (on 3 (half v 3) [] refl))) ∙ simp (append_assoc, append-nil))
   where
     on : (k h : ℕ) (ps : List (ℕ × ℕ)) {qs : List (ℕ × ℕ)} → ps ≡ qs → unless f k h ps ≡ part f k h ++ qs
     on k h ps {qs} e = go (eqb h f)
@@ -37,9 +37,9 @@ abbrev pub Halves : List (ℕ × ℕ) → Type 0
 Halves [] = Unit
 Halves ((k, h) ∷ ps) = (k < 4) × (h < 2 ^ 16) × Halves ps
 
-pub others-halves : (f v : ℕ) → Halves (others f v)
+pub others_halves : (f v : ℕ) → Halves (others f v)
 unfolding others
-others-halves f v = kept 0 (half v 0) _ (omega arith) (kept 1 (half v 1) _ (omega arith) (kept 2 (half v 2) _ (omega arith) (kept 3 (half v 3) [] (omega arith) tt)))
+others_halves f v = kept 0 (half v 0) _ (omega arith) (kept 1 (half v 1) _ (omega arith) (kept 2 (half v 2) _ (omega arith) (kept 3 (half v 3) [] (omega arith) tt)))
   where
     kept : (k h : ℕ) (ps : List (ℕ × ℕ)) → (k < 4) × (h < 2 ^ 16) → Halves ps → Halves (unless f k h ps)
     kept k h ps l hs = go (eqb h f)
@@ -59,14 +59,14 @@ pub record Holds (ws : List ℕ) (n : ℕ) (l : List ℕ) : Type 0 where
 pub nothing : Holds [] 0 (replicate 5 0)
 nothing = record { stale = 0; end = refl; is = refl }
 
-rest-append : (rd : ℕ) (ps qs : List (ℕ × ℕ)) → rest (ps ++ qs) rd ≡ rest ps rd ++ rest qs rd
-rest-append rd [] qs = refl
-rest-append rd ((k, h) ∷ ps) qs = rw (rest-append rd ps qs)
+rest_append : (rd : ℕ) (ps qs : List (ℕ × ℕ)) → rest (ps ++ qs) rd ≡ rest ps rd ++ rest qs rd
+rest_append rd [] qs = refl
+rest_append rd ((k, h) ∷ ps) qs = rw (rest_append rd ps qs)
 
 -- a store at the end n: the end moves on, unless the halfword is f, and then the word will be stored over
 pub more : (rd f k j : ℕ) (ps : List (ℕ × ℕ)) {l : List ℕ} {n m w h : ℕ} → Holds (rest ps rd) n l → n < 4
     → m ≡ n + cond (eqb h f) 0 1 → h ≡ j → w ≡ word movk k h rd → Holds (rest (ps ++ part f k j) rd) m (set l n w)
-more rd f k j ps {l} {n} {m} {w} {h} t s e p q = rw (rest-append rd ps (part f k j), e, p) (go (eqb j f))
+more rd f k j ps {l} {n} {m} {w} {h} t s e p q = rw (rest_append rd ps (part f k j), e, p) (go (eqb j f))
   where
     ws : List ℕ
     ws = rest ps rd
@@ -119,8 +119,8 @@ led z g (w ∷ ws) = rw (eqb-suc-zero (length ws))
 flip : (h : ℕ) → h < 2 ^ 16 → bit_xor h 0xFFFF ≡ 0xFFFF - h
 flip h l = let m : bit_and h (2 ^ 16 - 1) ≡ h = and_mask h 16 ∙ mod-eq_of_lt l in omega (arith, xor_add_and h 0xFFFF, m)
 
-module _ (rd : ℕ) (rd-is : rd < 31) where
-  first-is : (f k h : ℕ) → k < 4 → h < 2 ^ 16 → first_word f (word movk k h rd) ≡ word (firstBase f) k (bit_xor h f) rd
+module _ (rd : ℕ) (rd_is : rd < 31) where
+  first-is : (f k h : ℕ) → k < 4 → h < 2 ^ 16 → first_word f (word movk k h rd) ≡ word (first_base f) k (bit_xor h f) rd
   first-is f k h kl hl =
       let w = word movk k h rd in
       let p : w / 2 ^ 21 % 4 ≡ k = omega arith in
@@ -128,19 +128,19 @@ module _ (rd : ℕ) (rd-is : rd < 31) where
       let r : w % 2 ^ 5 ≡ rd = omega arith in
       rw (p, q, r)
 
-  first-movz : (ps : List (ℕ × ℕ)) → Halves ps → turned (firstBase 0 + rd) (first_word 0) (rest ps rd) ≡ byMovz ps rd
+  first_movz : (ps : List (ℕ × ℕ)) → Halves ps → turned (first_base 0 + rd) (first_word 0) (rest ps rd) ≡ by_movz ps rd
   unfolding turned
-  first-movz [] hs = refl
-  first-movz ((k, h) ∷ ps) hs = ap (λ (w : ℕ). w ∷ rest ps rd) (first-is 0 k h hs.0 hs.1 ∙ ap (λ (x : ℕ). word movz k x rd) (xor_zero_r h))
+  first_movz [] hs = refl
+  first_movz ((k, h) ∷ ps) hs = ap (λ (w : ℕ). w ∷ rest ps rd) (first-is 0 k h hs.0 hs.1 ∙ ap (λ (x : ℕ). word movz k x rd) (xor_zero_r h))
 
-  first-movn : (ps : List (ℕ × ℕ)) → Halves ps → turned (firstBase 0xFFFF + rd) (first_word 0xFFFF) (rest ps rd) ≡ byMovn ps rd
+  first_movn : (ps : List (ℕ × ℕ)) → Halves ps → turned (first_base 0xFFFF + rd) (first_word 0xFFFF) (rest ps rd) ≡ by_movn ps rd
   unfolding turned
-  first-movn [] hs = refl
-  first-movn ((k, h) ∷ ps) hs = ap (λ (w : ℕ). w ∷ rest ps rd) (first-is 0xFFFF k h hs.0 hs.1 ∙ ap (λ (x : ℕ). word movn k x rd) (flip h hs.1))
+  first_movn [] hs = refl
+  first_movn ((k, h) ∷ ps) hs = ap (λ (w : ℕ). w ∷ rest ps rd) (first-is 0xFFFF k h hs.0 hs.1 ∙ ap (λ (x : ℕ). word movn k x rd) (flip h hs.1))
 
   -- what the code does to the list is what is asked
-  pub long-by : (v : ℕ) {f z w : ℕ} {q : Words} (t : Bool) → f ≡ cond t 0 0xFFFF → z ≡ firstBase f → w ≡ first_word f q.a → q ≡ words_of (rest (others f v) rd)
-      → lead (z + rd) w q ≡ words_of (cond t (byMovz (others 0 v) rd) (byMovn (others 0xFFFF v) rd))
-  long-by v true p z w e = rw (z, w, e, p) (led _ (first_word 0) (rest (others 0 v) rd) ∙ ap words_of (first-movz (others 0 v) (others-halves 0 v)))
-  long-by v false p z w e =
-      rw (z, w, e, p) (led _ (first_word 0xFFFF) (rest (others 0xFFFF v) rd) ∙ ap words_of (first-movn (others 0xFFFF v) (others-halves 0xFFFF v)))
+  pub long_by : (v : ℕ) {f z w : ℕ} {q : Words} (t : Bool) → f ≡ cond t 0 0xFFFF → z ≡ first_base f → w ≡ first_word f q.a → q ≡ words_of (rest (others f v) rd)
+      → lead (z + rd) w q ≡ words_of (cond t (by_movz (others 0 v) rd) (by_movn (others 0xFFFF v) rd))
+  long_by v true p z w e = rw (z, w, e, p) (led _ (first_word 0) (rest (others 0 v) rd) ∙ ap words_of (first_movz (others 0 v) (others_halves 0 v)))
+  long_by v false p z w e =
+      rw (z, w, e, p) (led _ (first_word 0xFFFF) (rest (others 0xFFFF v) rd) ∙ ap words_of (first_movn (others 0xFFFF v) (others_halves 0xFFFF v)))

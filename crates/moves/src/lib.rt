@@ -1,9 +1,11 @@
 // Module 5: move sequences. Arm's meaning of the words is in the crate arm, the words that are asked for in specs/Moves.antt.
+#![tactic(auto)]
+
 ghost use Rattle.std.specs.Prelude.{◌≡◌, ◌/◌, ◌%◌, ◌^◌, ◌<◌};
 ghost use Rattle.words.specs.Answer.{said, made};
 ghost use Rattle.words.specs.Listed.{words_of, packed};
 ghost use Rattle.writers.specs.Put.{put_of};
-ghost use Rattle.moves.specs.Moves.{word, others, rest, long, short, movSaid};
+ghost use Rattle.moves.specs.Moves.{word, others, rest, long, short, mov_said};
 ghost use Rattle.moves.specs.Steps.{Passed, Filled, Based, first_word, lead};
 
 use words::{Opc, Place, Refusal, Worded, Words, Written};
@@ -134,7 +136,7 @@ fn encode_mov_sequence32(imm: u32, rd: u32) -> Words
 
 // The words of a move of a value to a register, 1 to 4, or refusal 2.
 pub fn mov_words(imm: u64, rd: u32) -> Worded
-    ensures { made result ≡ packed (movSaid imm rd) }
+    ensures { made result ≡ packed (mov_said imm rd) }
 {
     if rd > LAST_REGISTER {
         return Worded::Not(Refusal::Register);
@@ -147,7 +149,7 @@ pub fn mov_words(imm: u64, rd: u32) -> Worded
 
 // A move, written: the words from the place on, or refusal 15, 2 or 8 with the run unchanged.
 pub fn encode_mov_sequence64(words: &mut [u32], at: Place, imm: u64, rd: u32) -> Written
-    ensures { (said result, words.new) ≡ put_of words.old at (movSaid imm rd) }
+    ensures { (said result, words.new) ≡ put_of words.old at (mov_said imm rd) }
 {
     writers::put(words, at, mov_words(imm, rd))
 }

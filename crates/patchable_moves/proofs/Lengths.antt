@@ -9,12 +9,12 @@ use lib.Dec.{ltb, eqb}
 use lib.ListN.{length}
 use Rattle.words.specs.Said.{Said, ok, no}
 use Rattle.words.proofs.Answers.{Short}
-use Rattle.patchable_moves.specs.Patchable.{patch64, patch32, patchWords, patchSaid}
+use Rattle.patchable_moves.specs.Patchable.{patch64, patch32, patch_words, patch_said}
 
-pub patch-by : (v size rd : ℕ) (P : Said (List ℕ) → Type 0) → P (no 1) → P (no 2)
-    → (size ≡ 64 → rd < 31 → P (ok (patch64 v rd))) → (size ≡ 32 → rd < 31 → P (ok (patch32 v rd))) → P (patchSaid v size rd)
-unfolding patchSaid patchWords
-patch-by v size rd P other high at-64 at-32 = go (eqb size 64) refl (eqb size 32) refl (ltb 30 rd) refl
+pub patch_by : (v size rd : ℕ) (P : Said (List ℕ) → Type 0) → P (no 1) → P (no 2)
+    → (size ≡ 64 → rd < 31 → P (ok (patch64 v rd))) → (size ≡ 32 → rd < 31 → P (ok (patch32 v rd))) → P (patch_said v size rd)
+unfolding patch_said patch_words
+patch_by v size rd P other high at-64 at-32 = go (eqb size 64) refl (eqb size 32) refl (ltb 30 rd) refl
   where
     go : (a : Bool) → eqb size 64 ≡ a → (b : Bool) → eqb size 32 ≡ b → (c : Bool) → ltb 30 rd ≡ c
         → P (cond (not (a || b)) (no 1) (cond c (no 2) (ok (cond a (patch64 v rd) (patch32 v rd)))))
@@ -24,14 +24,14 @@ patch-by v size rd P other high at-64 at-32 = go (eqb size 64) refl (eqb size 32
     go false e true f false g = at-32 (eqb-true size 32 f) (omega (arith, ltb-false 30 rd g))
     go false e false f c g = other
 
-pub patch64-length : (v rd : ℕ) → length (patch64 v rd) ≡ 4
+pub patch64_length : (v rd : ℕ) → length (patch64 v rd) ≡ 4
 unfolding patch64
-patch64-length v rd = refl
+patch64_length v rd = refl
 
-pub patch32-length : (v rd : ℕ) → length (patch32 v rd) ≡ 2
+pub patch32_length : (v rd : ℕ) → length (patch32 v rd) ≡ 2
 unfolding patch32
-patch32-length v rd = refl
+patch32_length v rd = refl
 
 -- words that are said fit a value of four
-pub patch-short : (v size rd : ℕ) → Short (patchSaid v size rd)
-patch-short v size rd = patch-by v size rd Short tt tt (λ e l. omega (arith, patch64-length v rd)) (λ e l. omega (arith, patch32-length v rd))
+pub patch_short : (v size rd : ℕ) → Short (patch_said v size rd)
+patch_short v size rd = patch_by v size rd Short tt tt (λ e l. omega (arith, patch64_length v rd)) (λ e l. omega (arith, patch32_length v rd))

@@ -18,12 +18,12 @@ patch64 v rd = word movz 0 (half v 0) rd ∷ word movk 1 (half v 1) rd ∷ word 
 unfoldable pub patch32 : ℕ → ℕ → List ℕ
 patch32 v rd = word movz32 0 (half v 0) rd ∷ word movk32 1 (half v 1) rd ∷ []
 
-unfoldable pub patchWords : ℕ → ℕ → ℕ → List ℕ
-patchWords v size rd = cond (eqb size 64) (patch64 v rd) (patch32 v rd)
+unfoldable pub patch_words : ℕ → ℕ → ℕ → List ℕ
+patch_words v size rd = cond (eqb size 64) (patch64 v rd) (patch32 v rd)
 
-abbrev pub isSize : ℕ → Bool
-isSize size = eqb size 64 || eqb size 32
+abbrev pub is_register_size : ℕ → Bool
+is_register_size size = eqb size 64 || eqb size 32
 
 -- "Order 1, 2, 8"
-unfoldable pub patchSaid : ℕ → ℕ → ℕ → Said (List ℕ)
-patchSaid v size rd = cond (not (isSize size)) (no 1) (cond (ltb 30 rd) (no 2) (ok (patchWords v size rd)))
+unfoldable pub patch_said : ℕ → ℕ → ℕ → Said (List ℕ)
+patch_said v size rd = cond (not (is_register_size size)) (no 1) (cond (ltb 30 rd) (no 2) (ok (patch_words v size rd)))

@@ -1,9 +1,11 @@
 // Module 6: patchable moves. Arm's meaning of the words is in the crate arm, the words that are asked for in specs/Patchable.antt.
+#![tactic(auto)]
+
 ghost use Rattle.std.specs.Prelude.{◌≡◌, ◌<◌};
 ghost use Rattle.words.specs.Answer.{said, made};
 ghost use Rattle.words.specs.Listed.{words_of, packed};
 ghost use Rattle.writers.specs.Put.{put_of};
-ghost use Rattle.patchable_moves.specs.Patchable.{isSize, patchWords, patchSaid};
+ghost use Rattle.patchable_moves.specs.Patchable.{is_register_size, patch_words, patch_said};
 
 use words::{Opc, Place, Refusal, Worded, Words, Written};
 
@@ -22,7 +24,7 @@ const HALFWORD: u32 = 0x200000;
 const LAST_REGISTER: u32 = 30;
 
 fn is_size(size: u32) -> bool
-    ensures { result ≡ isSize size }
+    ensures { result ≡ is_register_size size }
 {
     size == 64 || size == 32
 }
@@ -30,7 +32,7 @@ fn is_size(size: u32) -> bool
 // Always four words at 64 and two at 32, so that another value can be put in their place.
 fn patchable(value: u64, size: u32, rd: u32) -> Words
     requires { rd < 31 }
-    ensures { result ≡ words_of (patchWords value size rd) }
+    ensures { result ≡ words_of (patch_words value size rd) }
 {
     let h = halfwords::cut(value);
     if size == 64 {
@@ -50,7 +52,7 @@ fn patchable(value: u64, size: u32, rd: u32) -> Words
 
 // The words of a patchable move at a register size of 64 or 32, or refusal 1 or 2.
 pub fn patchable_mov_words(value: u64, size: u32, rd: u32) -> Worded
-    ensures { made result ≡ packed (patchSaid value size rd) }
+    ensures { made result ≡ packed (patch_said value size rd) }
 {
     if !is_size(size) {
         return Worded::Not(Refusal::Width);
@@ -69,7 +71,7 @@ pub fn encode_patchable_mov_imm(
     size: u32,
     rd: u32,
 ) -> Written
-    ensures { (said result, words.new) ≡ put_of words.old at (patchSaid value size rd) }
+    ensures { (said result, words.new) ≡ put_of words.old at (patch_said value size rd) }
 {
     writers::put(words, at, patchable_mov_words(value, size, rd))
 }

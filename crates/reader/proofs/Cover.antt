@@ -15,8 +15,8 @@ use Rattle.items.specs.declared.Item.TheVariants as item
 use Rattle.items.specs.Items.{item_of}
 use Rattle.reader.specs.declared.Found.TheVariants.{Single}
 use Rattle.reader.specs.declared.Span.{Span}
-use Rattle.reader.specs.Found.{span, keeps, leading, wordsAt, joinedOf, foundItem, foundOf}
-use Rattle.reader.specs.Cover.{span_of, onTo, spans, holding}
+use Rattle.reader.specs.Found.{span, keeps, leading, words_along, joined_of, found_item, found_of}
+use Rattle.reader.specs.Cover.{span_of, on_to, spans, holding}
 use Rattle.reader.proofs.Finds as finds
 
 leading_le : (sf rd : ℕ) (ws : List ℕ) → length (leading sf rd ws) ≤ length ws
@@ -36,10 +36,10 @@ pub record Onward (ws : List ℕ) (at : ℕ) (a : Option Span) : Type 0 where
   pub within : next ≤ length ws
 
 module _ (ws : List ℕ) (at : ℕ) (l : at < length ws) where
-  onward-joined : (sf rd : ℕ) → Onward ws at (span_of (joinedOf ws at sf rd))
-  unfolding joinedOf
-  onward-joined sf rd = record {
-    next = at + length (wordsAt ws at sf rd);
+  onward_joined : (sf rd : ℕ) → Onward ws at (span_of (joined_of ws at sf rd))
+  unfolding joined_of
+  onward_joined sf rd = record {
+    next = at + length (words_along ws at sf rd);
     is = refl;
     later = omega arith;
     within = omega (arith, leading_le sf rd (drop (suc at) ws), length-drop (suc at) ws);
@@ -48,18 +48,18 @@ module _ (ws : List ℕ) (at : ℕ) (l : at < length ws) where
   single : Onward ws at (some (span at (at + 1)))
   single = record { next = at + 1; is = refl; later = omega arith; within = omega arith }
 
-  onward-item : (i : Item) → Onward ws at (span_of (foundItem ws at i))
-  onward-item (item.Wide m) = go (eqb m.opc 3)
+  onward_item : (i : Item) → Onward ws at (span_of (found_item ws at i))
+  onward_item (item.Wide m) = go (eqb m.opc 3)
     where
-      go : (b : Bool) → Onward ws at (span_of (cond b (Single (item.Wide m) (span at (at + 1))) (joinedOf ws at m.sf m.rd)))
+      go : (b : Bool) → Onward ws at (span_of (cond b (Single (item.Wide m) (span at (at + 1))) (joined_of ws at m.sf m.rd)))
       go true = single
-      go false = onward-joined m.sf m.rd
-  onward-item (item.Logical x) = single
-  onward-item (item.Displaced x) = single
-  onward-item (item.Unknown x) = single
+      go false = onward_joined m.sf m.rd
+  onward_item (item.Logical x) = single
+  onward_item (item.Displaced x) = single
+  onward_item (item.Unknown x) = single
 
-  pub onward : Onward ws at (span_of (foundOf ws at))
-  onward = rw (finds.inside ws at l) (onward-item (item_of (get_or ws at 0)))
+  pub onward : Onward ws at (span_of (found_of ws at))
+  onward = rw (finds.inside ws at l) (onward_item (item_of (get_or ws at 0)))
 
 -- ---- every word
 
@@ -69,7 +69,7 @@ unfolding spans holding
 before zero k ws at h l = refl
 before (suc n) k ws at h l = go (λ next. before n k ws next) (ltb at (length ws)) refl
   where
-    go : ((next : ℕ) → k < next → next ≤ length ws → holding k (spans n ws next) ≡ 0) → (b : Bool) → ltb at (length ws) ≡ b → holding k (onTo (span_of (foundOf ws at)) (spans n ws)) ≡ 0
+    go : ((next : ℕ) → k < next → next ≤ length ws → holding k (spans n ws next) ≡ 0) → (b : Bool) → ltb at (length ws) ≡ b → holding k (on_to (span_of (found_of ws at)) (spans n ws)) ≡ 0
     go ih true e =
         let o = onward ws at (ltb-true _ _ e) in
         rw (o.is, lt-leb at k h) (ih o.next (omega (arith, o.later)) o.within)
@@ -81,10 +81,10 @@ unfolding spans holding
 once zero k ws at lo hi f = absurd (omega arith)
 once (suc n) k ws at lo hi f = go (λ next. once n k ws next) (ltb k o.next) refl
   where
-    o : Onward ws at (span_of (foundOf ws at))
+    o : Onward ws at (span_of (found_of ws at))
     o = onward ws at (omega arith)
 
-    go : ((next : ℕ) → next ≤ k → k < length ws → length ws - next ≤ n → holding k (spans n ws next) ≡ 1) → (b : Bool) → ltb k o.next ≡ b → holding k (onTo (span_of (foundOf ws at)) (spans n ws)) ≡ 1
+    go : ((next : ℕ) → next ≤ k → k < length ws → length ws - next ≤ n → holding k (spans n ws next) ≡ 1) → (b : Bool) → ltb k o.next ≡ b → holding k (on_to (span_of (found_of ws at)) (spans n ws)) ≡ 1
     go ih true e = rw (o.is, le-leb at k lo, e) (ap suc (before n k ws o.next (ltb-true _ _ e) o.within))
     go ih false e = rw (o.is, le-leb at k lo, e) (ih o.next (ltb-false _ _ e) hi (omega (arith, o.later)))
 

@@ -4,7 +4,7 @@ use Rattle.std.proofs.Math.Option.{Option, none, some}
 use Rattle.reader.specs.declared.Found.{Found}
 use Rattle.reader.specs.declared.Found.TheVariants.{Joined, Single, End, No}
 use Rattle.reader.specs.declared.Span.{Span}
-use Rattle.reader.specs.Found.{span, foundOf}
+use Rattle.reader.specs.Found.{span, found_of}
 
 -- the words of an item
 abbrev pub span_of : Found → Option Span
@@ -13,14 +13,14 @@ span_of (Single i s) = some s
 span_of End = none
 span_of (No r) = none
 
-abbrev pub onTo : Option Span → (ℕ → List Span) → List Span
-onTo none rest = []
-onTo (some s) rest = s ∷ rest s.next.0
+abbrev pub on_to : Option Span → (ℕ → List Span) → List Span
+on_to none rest = []
+on_to (some s) rest = s ∷ rest s.next.0
 
 -- where items begin and end, from a position on, up to n of them
 unfoldable pub spans : ℕ → List ℕ → ℕ → List Span
 spans zero ws at = []
-spans (suc n) ws at = onTo (span_of (foundOf ws at)) (spans n ws)
+spans (suc n) ws at = on_to (span_of (found_of ws at)) (spans n ws)
 
 -- how many of them hold a position
 unfoldable pub holding : ℕ → List Span → ℕ
@@ -31,15 +31,15 @@ holding k (s ∷ ps) = cond (leb s.at.0 k && ltb k s.next.0) (suc (holding k ps)
 abbrev pub moved : ℕ → Span → Span
 moved k s = span (k + s.at.0) (k + s.next.0)
 
-abbrev pub movedBy : ℕ → Found → Found
-movedBy k (Joined c s) = Joined c (moved k s)
-movedBy k (Single i s) = Single i (moved k s)
-movedBy k End = End
-movedBy k (No r) = No r
+abbrev pub moved_by : ℕ → Found → Found
+moved_by k (Joined c s) = Joined c (moved k s)
+moved_by k (Single i s) = Single i (moved k s)
+moved_by k End = End
+moved_by k (No r) = No r
 
 -- a constant that began at a position and went on in the words from k on
-abbrev pub goneOn : ℕ → ℕ → Found → Found
-goneOn at k (Joined c s) = Joined c (span at (k + s.next.0))
-goneOn at k (Single i s) = Single i s
-goneOn at k End = End
-goneOn at k (No r) = No r
+abbrev pub gone_on : ℕ → ℕ → Found → Found
+gone_on at k (Joined c s) = Joined c (span at (k + s.next.0))
+gone_on at k (Single i s) = Single i s
+gone_on at k End = End
+gone_on at k (No r) = No r

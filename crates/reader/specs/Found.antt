@@ -33,47 +33,47 @@ leading sf rd [] = []
 leading sf rd (w ∷ ws) = cond (keeps sf rd (wide_of (decode w))) (w ∷ leading sf rd ws) []
 
 -- the words of the constant at a position
-abbrev pub wordsAt : List ℕ → ℕ → ℕ → ℕ → List ℕ
-wordsAt ws at sf rd = get_or ws at 0 ∷ leading sf rd (drop (suc at) ws)
+abbrev pub words_along : List ℕ → ℕ → ℕ → ℕ → List ℕ
+words_along ws at sf rd = get_or ws at 0 ∷ leading sf rd (drop (suc at) ws)
 
 -- what words leave in a register, run by Arm's interpreter on registers that are 0
-abbrev pub leftIn : ℕ → Option Regs → ℕ
-leftIn rd none = 0
-leftIn rd (some R) = R rd
+abbrev pub left_in : ℕ → Option Regs → ℕ
+left_in rd none = 0
+left_in rd (some R) = R rd
 
 abbrev pub value_of : ℕ → List ℕ → ℕ
-value_of rd ws = leftIn rd (run ws (λ k. 0))
+value_of rd ws = left_in rd (run ws (λ k. 0))
 
-unfoldable pub joinedOf : List ℕ → ℕ → ℕ → ℕ → Found
-joinedOf ws at sf rd =
-    let ms = wordsAt ws at sf rd in
+unfoldable pub joined_of : List ℕ → ℕ → ℕ → ℕ → Found
+joined_of ws at sf rd =
+    let ms = words_along ws at sf rd in
     Joined (record { sf = sf; rd = rd; value = value_of rd ms; count = length ms }) (span at (at + length ms))
 
 -- ---- any position
 
 -- "A lone MOVK is shown as one"; every item but a constant is one word
-abbrev pub foundItem : List ℕ → ℕ → Item → Found
-foundItem ws at (item.Wide m) = cond (eqb m.opc 3) (Single (item.Wide m) (span at (at + 1))) (joinedOf ws at m.sf m.rd)
-foundItem ws at (item.Logical l) = Single (item.Logical l) (span at (at + 1))
-foundItem ws at (item.Displaced d) = Single (item.Displaced d) (span at (at + 1))
-foundItem ws at (item.Unknown w) = Single (item.Unknown w) (span at (at + 1))
+abbrev pub found_item : List ℕ → ℕ → Item → Found
+found_item ws at (item.Wide m) = cond (eqb m.opc 3) (Single (item.Wide m) (span at (at + 1))) (joined_of ws at m.sf m.rd)
+found_item ws at (item.Logical l) = Single (item.Logical l) (span at (at + 1))
+found_item ws at (item.Displaced d) = Single (item.Displaced d) (span at (at + 1))
+found_item ws at (item.Unknown w) = Single (item.Unknown w) (span at (at + 1))
 
 -- 8 past the end of the run; the end itself is an answer
-unfoldable pub foundOf : List ℕ → ℕ → Found
-foundOf ws at = cond (ltb (length ws) at) (No NoRoom) (cond (eqb (length ws) at) End (foundItem ws at (item_of (get_or ws at 0))))
+unfoldable pub found_of : List ℕ → ℕ → Found
+found_of ws at = cond (ltb (length ws) at) (No NoRoom) (cond (eqb (length ws) at) End (found_item ws at (item_of (get_or ws at 0))))
 
 -- ---- a constant whose words end where a piece of the run begins
 
-unfoldable pub joinedOn : List ℕ → Constant → Found
-joinedOn ws c =
+unfoldable pub joined_on : List ℕ → Constant → Found
+joined_on ws c =
     let ms = leading c.sf c.rd ws in
-    Joined (record { sf = c.sf; rd = c.rd; value = leftIn c.rd (run ms (write (λ k. 0) c.rd c.value)); count = c.count + length ms }) (span 0 (length ms))
+    Joined (record { sf = c.sf; rd = c.rd; value = left_in c.rd (run ms (write (λ k. 0) c.rd c.value)); count = c.count + length ms }) (span 0 (length ms))
 
 -- 1, 2 or 3 where its size, its register or its value at the size is none, 8 where the count of its words would not fit
-unfoldable pub resumedOf : List ℕ → Constant → Found
-resumedOf ws c =
+unfoldable pub resumed_of : List ℕ → Constant → Found
+resumed_of ws c =
     cond (ltb 1 c.sf) (No Width)
     (cond (ltb 30 c.rd) (No Register)
     (cond (ltb (Ones (datasize c.sf)) c.value) (No NoField)
     (cond (ltb (2 ^ 64 - 1 - c.count) (length ws)) (No NoRoom)
-    (joinedOn ws c))))
+    (joined_on ws c))))

@@ -1,10 +1,12 @@
 // Request a of document 02: a run of words read back. A MOVZ or MOVN and the MOVK words that follow at the same register and size are one constant;
 // every other word is an item of its own.
+#![tactic(auto)]
+
 ghost use Rattle.std.specs.Prelude.{◌≡◌, ◌+◌, ◌-◌, ◌*◌, ◌^◌, ◌≤◌, ◌<◌};
 ghost use Rattle.arm.specs.Bits.{Ones};
 ghost use Rattle.arm.specs.MoveWide.{decode, insert, datasize};
 ghost use Rattle.wide_moves.specs.Wide.{wide_of};
-ghost use Rattle.reader.specs.Found.{span, keeps, joinedOf, foundOf, resumedOf};
+ghost use Rattle.reader.specs.Found.{span, keeps, joined_of, found_of, resumed_of};
 ghost use Rattle.reader.specs.Private.{FirstAt, first_of};
 
 use items::Item;
@@ -12,7 +14,7 @@ use wide_moves::{WideAnswer, WideMove};
 use words::{Opc, Refusal, WordPos};
 
 // A constant: what `count` words leave in register rd, in all 64 bits; sf is 1 at size 64 and 0 at size 32.
-#[derive(Drop)]
+#[derive(Clone, Copy)]
 pub struct Constant {
     pub sf: u32,
     pub rd: u32,
@@ -21,14 +23,14 @@ pub struct Constant {
 }
 
 // The words of an item: its position, and the position after it.
-#[derive(Drop)]
+#[derive(Clone, Copy)]
 pub struct Span {
     pub at: WordPos,
     pub next: WordPos,
 }
 
 // What stands at a position. The end of the run is an ordinary answer.
-#[derive(Drop)]
+#[derive(Clone, Copy)]
 pub enum Found {
     Joined(Constant, Span),
     Single(Item, Span),
@@ -116,7 +118,7 @@ fn joined(sf: u32, rd: u32, value: u64, count: usize, at: usize, next: usize) ->
 // The MOVZ or MOVN at a position, and the MOVK words after it.
 fn join(words: &[u32], at: usize, m: WideMove) -> Found
     requires { FirstAt words.now at m }
-    ensures { result ≡ joinedOf words.now at m.sf m.rd }
+    ensures { result ≡ joined_of words.now at m.sf m.rd }
 {
     let sf = m.sf;
     let rd = m.rd;
@@ -149,7 +151,7 @@ fn single(item: Item, at: usize) -> Found
 
 // What stands at a position: 8 past the end of the run.
 pub fn read_at(words: &[u32], at: WordPos) -> Found
-    ensures { result ≡ foundOf words.now at.0 }
+    ensures { result ≡ found_of words.now at.0 }
 {
     let i = at.0;
     if words.len() < i {
@@ -176,7 +178,7 @@ pub fn read_at(words: &[u32], at: WordPos) -> Found
 // A constant whose words end where this piece begins, with the MOVK words at the piece's start: 1, 2, 3 where it is none, 8 where the count of its
 // words would not fit.
 pub fn resume(words: &[u32], c: Constant) -> Found
-    ensures { result ≡ resumedOf words.now c }
+    ensures { result ≡ resumed_of words.now c }
 {
     let size = c.sf;
     let rd = c.rd;

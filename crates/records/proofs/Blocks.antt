@@ -9,33 +9,33 @@ use native.Mathlib.Omega.{arith}
 use lib.ListN.{length, take, drop, length-append, length-drop}
 use lib.Seq.{take-append-le, drop-append-le, drop-append-add}
 use Rattle.lines.specs.Item.{Item}
-use Rattle.records.specs.Inputs.{recordAt, offsetAt, Told, none, more, Prints, whole, ended}
+use Rattle.records.specs.Inputs.{record_at, offset_after, Told, none, more, Prints, whole, ended}
 
 -- the offset of a block's record
-pub offset_at : (offset m k : ℕ) → offsetAt (offsetAt offset m) k ≡ offsetAt offset (m + k)
+pub offset_at : (offset m k : ℕ) → offset_after (offset_after offset m) k ≡ offset_after offset (m + k)
 offset_at offset m k = mod-add-mod (offset + 12 * m) (2 ^ 64) (12 * k) ∙ ap (λ (n : ℕ). n % 2 ^ 64) (omega arith)
 
 -- a block a of m records, and what follows it
 module _ (offset : ℕ) (a b : List ℕ) (m : ℕ) (full : length a ≡ 12 * m) where
-  record-left : (k : ℕ) → k < m → recordAt (a ++ b) k ≡ recordAt a k
-  record-left k h =
+  record_left : (k : ℕ) → k < m → record_at (a ++ b) k ≡ record_at a k
+  record_left k h =
       ap (take 12) (drop-append-le (12 * k) a b (omega arith)) ∙ take-append-le 12 (drop (12 * k) a) b (simp length-drop (omega arith))
 
-  record-right : (k : ℕ) → recordAt (a ++ b) (m + k) ≡ recordAt b k
-  record-right k =
+  record_right : (k : ℕ) → record_at (a ++ b) (m + k) ≡ record_at b k
+  record_right k =
       let e : 12 * (m + k) ≡ length a + 12 * k = omega arith in
       ap (λ (n : ℕ). take 12 (drop n (a ++ b))) e ∙ ap (take 12) (drop-append-add a b (12 * k))
 
-  told-left : (k : ℕ) {s : Bool} {is : List Item} → k ≤ m → Told offset a k s is → Told offset (a ++ b) k s is
-  told-left zero h none = none
-  told-left (suc k) h (more i p l) = more i (told-left k (omega arith) p) (rw (record-left k h) l)
+  told_left : (k : ℕ) {s : Bool} {is : List Item} → k ≤ m → Told offset a k s is → Told offset (a ++ b) k s is
+  told_left zero h none = none
+  told_left (suc k) h (more i p l) = more i (told_left k (omega arith) p) (rw (record_left k h) l)
 
-  pub told_blocks : (k : ℕ) {s : Bool} {is js : List Item} → Told offset a m false is → Told (offsetAt offset m) b k s js → Told offset (a ++ b) (m + k) s (is ++ js)
-  told_blocks zero {is = is} p none = rw (add-zero m, append-nil is) (told-left m (omega arith) p)
-  told_blocks (suc k) p (more i q l) = rw (add-suc m k, ← append_assoc) (more i (told_blocks k p q) (rw (record-right k, ← offset_at offset m k) l))
+  pub told_blocks : (k : ℕ) {s : Bool} {is js : List Item} → Told offset a m false is → Told (offset_after offset m) b k s js → Told offset (a ++ b) (m + k) s (is ++ js)
+  told_blocks zero {is = is} p none = rw (add-zero m, append-nil is) (told_left m (omega arith) p)
+  told_blocks (suc k) p (more i q l) = rw (add-suc m k, ← append_assoc) (more i (told_blocks k p q) (rw (record_right k, ← offset_at offset m k) l))
 
   -- a block that goes on
-  pub blocks : (is js : List Item) → Told offset a m false is → Prints (offsetAt offset m) b js → Prints offset (a ++ b) (is ++ js)
+  pub blocks : (is js : List Item) → Told offset a m false is → Prints (offset_after offset m) b js → Prints offset (a ++ b) (is ++ js)
   blocks is js p (whole {is = ks} q) =
       let n : length (a ++ b) / 12 ≡ m + length b / 12 = simp length-append (omega arith) in
       let r : length (a ++ b) % 12 ≡ length b % 12 = simp length-append (omega arith) in
@@ -45,4 +45,4 @@ module _ (offset : ℕ) (a b : List ℕ) (m : ℕ) (full : length a ≡ 12 * m) 
 
   -- a block in which the end is
   pub last_block : {k : ℕ} {is : List Item} → Told offset a k true is → k ≤ m → Prints offset (a ++ b) is
-  last_block {k} p h = ended (told-left k h p) (simp length-append (omega arith))
+  last_block {k} p h = ended (told_left k h p) (simp length-append (omega arith))

@@ -2,14 +2,14 @@
 use mathlib.Core.Path.{◌≡◌, refl, ap, ◌∙◌}
 use mathlib.Core.List.{List, [], ◌∷◌, ◌++◌}
 use Prim.Native.Nat.{ℕ, zero, suc, ◌/◌, ◌%◌}
-use Rattle.lines.specs.Item.{Item, words, numbers, no, badMark, cut_at}
-use Rattle.lines.specs.Text.{textsOf, decimal}
+use Rattle.lines.specs.Item.{Item, words, numbers, no, bad_mark, cut_at}
+use Rattle.lines.specs.Text.{texts_of, decimal}
 use Rattle.halfwords.specs.Halfwords.{count}
-use Rattle.logical.proofs.Model.{encodeOf}
-use Rattle.moves.specs.Moves.{others, long, short, movWords, movSaid}
-use Rattle.records.specs.Records.{marked, value_of, askedBy}
+use Rattle.logical.proofs.Model.{encode_of}
+use Rattle.moves.specs.Moves.{others, long, short, words_of_move, mov_said}
+use Rattle.records.specs.Records.{marked, value_of, asked_by}
 use Rattle.records.specs.Inputs.{Prints}
-use Rattle.records.proofs.Model.{line_of, lines_of, the-lines}
+use Rattle.records.proofs.Model.{line_of, lines_of, the_lines}
 
 -- "move all ones to 3; fields at 64 of 5555555555555555; move 0 to 31"
 abbrev pub three : List ℕ
@@ -19,19 +19,19 @@ three =
     ∷ 0x46 ∷ 0x53 ∷ 1 ∷ 31 ∷ 0 ∷ 0 ∷ 0 ∷ 0 ∷ 0 ∷ 0 ∷ 0 ∷ 0 ∷ []
 
 -- `ok 92800003`, `ok 0 60 0 2`, `no 2`
-abbrev pub threeLines : List ℕ
-threeLines =
+abbrev pub three_lines : List ℕ
+three_lines =
     111 ∷ 107 ∷ 32 ∷ 57 ∷ 50 ∷ 56 ∷ 48 ∷ 48 ∷ 48 ∷ 48 ∷ 51 ∷ 10
     ∷ 111 ∷ 107 ∷ 32 ∷ 48 ∷ 32 ∷ 54 ∷ 48 ∷ 32 ∷ 48 ∷ 32 ∷ 50 ∷ 10
     ∷ 110 ∷ 111 ∷ 32 ∷ 50 ∷ 10 ∷ []
 
-computed : textsOf (lines_of 0 three) ≡ threeLines
-unfolding decimal marked value_of askedBy line_of lines_of encodeOf movSaid movWords long short count others
+computed : texts_of (lines_of 0 three) ≡ three_lines
+unfolding decimal marked value_of asked_by line_of lines_of encode_of mov_said words_of_move long short count others
 computed = refl
 
 -- "print exactly"
-pub three-print : (is : List Item) → Prints 0 three is → textsOf is ≡ threeLines
-three-print is h = ap textsOf (the-lines 0 three is h) ∙ computed
+pub three_print : (is : List Item) → Prints 0 three is → texts_of is ≡ three_lines
+three_print is h = ap texts_of (the_lines 0 three is h) ∙ computed
 
 -- ---- lines of every kind
 
@@ -69,17 +69,17 @@ pub every-kind :
     ∷ no 7
     ∷ cut_at 132
     ∷ []
-unfolding marked value_of askedBy line_of lines_of encodeOf movSaid movWords long short count others
+unfolding marked value_of asked_by line_of lines_of encode_of mov_said words_of_move long short count others
 every-kind = refl
 
 -- the first byte of the mark, and the second; a bad mark is the end
-pub bad-first : lines_of 0 (0x47 ∷ 0x53 ∷ 1 ∷ 0 ∷ bytes_of 8 0 ++ asks 1 0 0) ≡ badMark 0 ∷ []
+pub bad_first : lines_of 0 (0x47 ∷ 0x53 ∷ 1 ∷ 0 ∷ bytes_of 8 0 ++ asks 1 0 0) ≡ bad_mark 0 ∷ []
 unfolding marked line_of lines_of
-bad-first = refl
+bad_first = refl
 
-pub bad-second : lines_of 0 (asks 1 0 0 ++ (0x46 ∷ 0x54 ∷ 1 ∷ 0 ∷ bytes_of 8 0) ++ (0x46 ∷ [])) ≡ words (0xD2800000 ∷ []) ∷ badMark 12 ∷ []
-unfolding marked value_of askedBy line_of lines_of movSaid movWords short
-bad-second = refl
+pub bad_second : lines_of 0 (asks 1 0 0 ++ (0x46 ∷ 0x54 ∷ 1 ∷ 0 ∷ bytes_of 8 0) ++ (0x46 ∷ [])) ≡ words (0xD2800000 ∷ []) ∷ bad_mark 12 ∷ []
+unfolding marked value_of asked_by line_of lines_of mov_said words_of_move short
+bad_second = refl
 
 -- tails, whatever they hold
 pub empty : lines_of 0 [] ≡ []
@@ -90,6 +90,6 @@ pub one_byte : lines_of 0 (0 ∷ []) ≡ cut_at 0 ∷ []
 unfolding lines_of
 one_byte = refl
 
-pub eleven-bytes : lines_of 0 (0 ∷ 0 ∷ 0 ∷ 0 ∷ 0 ∷ 0 ∷ 0 ∷ 0 ∷ 0 ∷ 0 ∷ 0 ∷ []) ≡ cut_at 0 ∷ []
+pub eleven_bytes : lines_of 0 (0 ∷ 0 ∷ 0 ∷ 0 ∷ 0 ∷ 0 ∷ 0 ∷ 0 ∷ 0 ∷ 0 ∷ 0 ∷ []) ≡ cut_at 0 ∷ []
 unfolding lines_of
-eleven-bytes = refl
+eleven_bytes = refl

@@ -8,69 +8,69 @@ use Rattle.words.specs.Answer.{number_of}
 use Rattle.words.specs.Listed.{list_of, words_of, listed, packed}
 use Rattle.words.specs.declared.Refusal.{Refusal}
 use Rattle.words.specs.declared.Words.{Words}
-use Rattle.words.proofs.Answers.{listed-packed}
-use Rattle.lines.specs.Item.{Item, badMark}
+use Rattle.words.proofs.Answers.{listed_packed}
+use Rattle.lines.specs.Item.{Item, bad_mark}
 use Rattle.lines.specs.declared.Answer.{Answer}
 use Rattle.lines.specs.declared.Answer.TheVariants as answer
 use Rattle.logical.specs.declared.LogicalImm.{LogicalImm}
-use Rattle.moves.specs.Moves.{movSaid}
-use Rattle.moves.proofs.Lengths.{mov-short}
-use Rattle.records.specs.Records.{Asked, move, fields, fp64, other, marked, kind_of, registerOf, value_of, askedBy, wordsLine, fieldsLine, floatLine, Says, LineOf}
+use Rattle.moves.specs.Moves.{mov_said}
+use Rattle.moves.proofs.Lengths.{mov_short}
+use Rattle.records.specs.Records.{Asked, move, fields, fp64, other, marked, kind_of, register_of, value_of, asked_by, words_line, fields_line, float_line, Says, LineOf}
 use Rattle.records.specs.Answers.{OneLine}
 use Rattle.records.specs.Inputs.{ends_at}
 
 -- ---- moves
 
 module _ (rd v : ℕ) where
-  pub move-made : (f : Words) → ◌≡◌ {A = Said Words} (ok f) (packed (movSaid v rd)) → OneLine (Says move rd v) (answer.Words f)
-  move-made f h =
-      let e : ◌≡◌ {A = Said (List ℕ)} (ok (list_of f)) (movSaid v rd) = ap listed h ∙ listed-packed (movSaid v rd) (mov-short v rd) in
+  pub move_made : (f : Words) → ◌≡◌ {A = Said Words} (ok f) (packed (mov_said v rd)) → OneLine (Says move rd v) (answer.Words f)
+  move_made f h =
+      let e : ◌≡◌ {A = Said (List ℕ)} (ok (list_of f)) (mov_said v rd) = ap listed h ∙ listed_packed (mov_said v rd) (mov_short v rd) in
       let p : ◌≡◌ {A = Said Words} (ok f) (ok (words_of (list_of f))) = h ∙ ap packed (sym e) in
-      record { item = _; line = refl; plain = cc; says = ap wordsLine e }
+      record { item = _; line = refl; plain = cc; says = ap words_line e }
 
-  pub move-not : (r : Refusal) → ◌≡◌ {A = Said Words} (no (number_of r)) (packed (movSaid v rd)) → OneLine (Says move rd v) (answer.No r)
-  move-not r h =
-      let e : ◌≡◌ {A = Said (List ℕ)} (no (number_of r)) (movSaid v rd) = ap listed h ∙ listed-packed (movSaid v rd) (mov-short v rd) in
-      record { item = _; line = refl; plain = tt; says = ap wordsLine e }
+  pub move_not : (r : Refusal) → ◌≡◌ {A = Said Words} (no (number_of r)) (packed (mov_said v rd)) → OneLine (Says move rd v) (answer.No r)
+  move_not r h =
+      let e : ◌≡◌ {A = Said (List ℕ)} (no (number_of r)) (mov_said v rd) = ap listed h ∙ listed_packed (mov_said v rd) (mov_short v rd) in
+      record { item = _; line = refl; plain = tt; says = ap words_line e }
 
 -- ---- only a bad mark is the end
 
-words-go : (x : Said (List ℕ)) → ends_at (wordsLine x) ≡ false
-words-go (ok ws) = refl
-words-go (no n) = refl
+words_go : (x : Said (List ℕ)) → ends_at (words_line x) ≡ false
+words_go (ok ws) = refl
+words_go (no n) = refl
 
-fields_go : (x : Said LogicalImm) → ends_at (fieldsLine x) ≡ false
+fields_go : (x : Said LogicalImm) → ends_at (fields_line x) ≡ false
 fields_go (ok f) = refl
 fields_go (no n) = refl
 
-float-go : (x : Said ℕ) → ends_at (floatLine x) ≡ false
-float-go (ok b) = refl
-float-go (no n) = refl
+float_go : (x : Said ℕ) → ends_at (float_line x) ≡ false
+float_go (ok b) = refl
+float_go (no n) = refl
 
-says-go : (k : Asked) (rd v : ℕ) (i : Item) → Says k rd v i → ends_at i ≡ false
-says-go move rd v i s = rw s (words-go (movSaid v rd))
-says-go (fields w) rd v i (a, e, s) = rw s (fields_go a)
-says-go fp64 rd v i (a, e, s) = rw s (float-go a)
-says-go other rd v i s = rw s refl
+says_go : (k : Asked) (rd v : ℕ) (i : Item) → Says k rd v i → ends_at i ≡ false
+says_go move rd v i s = rw s (words_go (mov_said v rd))
+says_go (fields w) rd v i (a, e, s) = rw s (fields_go a)
+says_go fp64 rd v i (a, e, s) = rw s (float_go a)
+says_go other rd v i s = rw s refl
 
-pub line-ends : (r : List ℕ) (offset : ℕ) (i : Item) → LineOf r offset i → ends_at i ≡ not (marked r)
+pub line_ends : (r : List ℕ) (offset : ℕ) (i : Item) → LineOf r offset i → ends_at i ≡ not (marked r)
 unfolding LineOf
-line-ends r offset i l = go (marked r) l
+line_ends r offset i l = go (marked r) l
   where
-    go : (b : Bool) → cond b (Says (askedBy (kind_of r)) (registerOf r) (value_of r) i) (i ≡ badMark offset) → ends_at i ≡ not b
-    go true s = says-go (askedBy (kind_of r)) (registerOf r) (value_of r) i s
+    go : (b : Bool) → cond b (Says (asked_by (kind_of r)) (register_of r) (value_of r) i) (i ≡ bad_mark offset) → ends_at i ≡ not b
+    go true s = says_go (asked_by (kind_of r)) (register_of r) (value_of r) i s
     go false s = rw s refl
 
 -- ---- the mark is compared first
 
 module _ (r : List ℕ) (offset : ℕ) where
-  pub line-good : (i : Item) → marked r ≡ true → Says (askedBy (kind_of r)) (registerOf r) (value_of r) i → LineOf r offset i
+  pub line_good : (i : Item) → marked r ≡ true → Says (asked_by (kind_of r)) (register_of r) (value_of r) i → LineOf r offset i
   unfolding LineOf
-  line-good i m s = rw m s
+  line_good i m s = rw m s
 
-  pub line-bad : marked r ≡ false → LineOf r offset (badMark offset)
+  pub line_bad : marked r ≡ false → LineOf r offset (bad_mark offset)
   unfolding LineOf
-  line-bad m = rw m refl
+  line_bad m = rw m refl
 
-  pub answer-good : {a : Answer} → marked r ≡ true → OneLine (Says (askedBy (kind_of r)) (registerOf r) (value_of r)) a → OneLine (LineOf r offset) a
-  answer-good m o = record { item = o.item; line = o.line; plain = o.plain; says = line-good o.item m o.says }
+  pub answer_good : {a : Answer} → marked r ≡ true → OneLine (Says (asked_by (kind_of r)) (register_of r) (value_of r)) a → OneLine (LineOf r offset) a
+  answer_good m o = record { item = o.item; line = o.line; plain = o.plain; says = line_good o.item m o.says }

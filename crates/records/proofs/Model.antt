@@ -7,82 +7,82 @@ use mathlib.Core.Logic.{inl, inr}
 use Prim.Native.Nat.{ℕ, zero, suc, ◌+◌, ◌/◌, ◌%◌, ◌^◌}
 use native.Mathlib.Omega.{arith}
 use lib.ListN.{length}
-use Rattle.lines.specs.Item.{Item, no, badMark}
-use Rattle.logical.proofs.Model.{encodeOf, encode-right}
-use Rattle.moves.specs.Moves.{movSaid}
+use Rattle.lines.specs.Item.{Item, no, bad_mark}
+use Rattle.logical.proofs.Model.{encode_of, encode_right}
+use Rattle.moves.specs.Moves.{mov_said}
 use Rattle.immediates.specs.Says.{FloatSays}
 use Rattle.immediates.proofs.Laws.{fp64}
 use Rattle.immediates.proofs.Examples.{float_of}
-use Rattle.records.specs.Records.{Asked, move, fields, other, marked, kind_of, registerOf, value_of, askedBy, wordsLine, fieldsLine, floatLine, Says, LineOf, tailOf}
+use Rattle.records.specs.Records.{Asked, move, fields, other, marked, kind_of, register_of, value_of, asked_by, words_line, fields_line, float_line, Says, LineOf, tail_of}
 use Rattle.records.specs.Records as asked
-use Rattle.records.specs.Inputs.{recordAt, offsetAt, ends_at, Told, none, more, Prints, whole, ended}
-use Rattle.records.proofs.Determined.{prints-determined}
+use Rattle.records.specs.Inputs.{record_at, offset_after, ends_at, Told, none, more, Prints, whole, ended}
+use Rattle.records.proofs.Determined.{prints_determined}
 
 -- ---- a record
 
 abbrev says_of : Asked → ℕ → ℕ → Item
-says_of move rd v = wordsLine (movSaid v rd)
-says_of (fields w) rd v = fieldsLine (encodeOf w v)
-says_of asked.fp64 rd v = floatLine (float_of 64 v)
+says_of move rd v = words_line (mov_said v rd)
+says_of (fields w) rd v = fields_line (encode_of w v)
+says_of asked.fp64 rd v = float_line (float_of 64 v)
 says_of other rd v = no 7
 
-float-right : (v : ℕ) → FloatSays 64 v (float_of 64 v)
+float_right : (v : ℕ) → FloatSays 64 v (float_of 64 v)
 unfolding FloatSays
-float-right v = inl (inr (inr refl), fp64 (v % 2 ^ 64))
+float_right v = inl (inr (inr refl), fp64 (v % 2 ^ 64))
 
-says-right : (k : Asked) (rd v : ℕ) → Says k rd v (says_of k rd v)
-says-right move rd v = refl
-says-right (fields w) rd v = (encodeOf w v, encode-right w v, refl)
-says-right asked.fp64 rd v = (float_of 64 v, float-right v, refl)
-says-right other rd v = refl
+says_right : (k : Asked) (rd v : ℕ) → Says k rd v (says_of k rd v)
+says_right move rd v = refl
+says_right (fields w) rd v = (encode_of w v, encode_right w v, refl)
+says_right asked.fp64 rd v = (float_of 64 v, float_right v, refl)
+says_right other rd v = refl
 
 unfoldable pub line_of : List ℕ → ℕ → Item
-line_of r offset = cond (marked r) (says_of (askedBy (kind_of r)) (registerOf r) (value_of r)) (badMark offset)
+line_of r offset = cond (marked r) (says_of (asked_by (kind_of r)) (register_of r) (value_of r)) (bad_mark offset)
 
-pub line-right : (r : List ℕ) (offset : ℕ) → LineOf r offset (line_of r offset)
+pub line_right : (r : List ℕ) (offset : ℕ) → LineOf r offset (line_of r offset)
 unfolding LineOf line_of
-line-right r offset = go (marked r)
+line_right r offset = go (marked r)
   where
     k : Asked
-    k = askedBy (kind_of r)
+    k = asked_by (kind_of r)
 
-    go : (b : Bool) → cond b (Says k (registerOf r) (value_of r) (cond b (says_of k (registerOf r) (value_of r)) (badMark offset))) (cond b (says_of k (registerOf r) (value_of r)) (badMark offset) ≡ badMark offset)
-    go true = says-right k (registerOf r) (value_of r)
+    go : (b : Bool) → cond b (Says k (register_of r) (value_of r) (cond b (says_of k (register_of r) (value_of r)) (bad_mark offset))) (cond b (says_of k (register_of r) (value_of r)) (bad_mark offset) ≡ bad_mark offset)
+    go true = says_right k (register_of r) (value_of r)
     go false = refl
 
 -- ---- an input
 
 -- n records from record k on, and the tail
 lines_from : ℕ → ℕ → ℕ → List ℕ → List Item
-lines_from zero k offset bs = tailOf (length bs % 12) (offsetAt offset k)
-lines_from (suc n) k offset bs = let i = line_of (recordAt bs k) (offsetAt offset k) in i ∷ cond (ends_at i) [] (lines_from n (suc k) offset bs)
+lines_from zero k offset bs = tail_of (length bs % 12) (offset_after offset k)
+lines_from (suc n) k offset bs = let i = line_of (record_at bs k) (offset_after offset k) in i ∷ cond (ends_at i) [] (lines_from n (suc k) offset bs)
 
 unfoldable pub lines_of : ℕ → List ℕ → List Item
 unfolding lines_from
 lines_of offset bs = lines_from (length bs / 12) 0 offset bs
 
-prints-from : (n k offset : ℕ) (bs : List ℕ) {is : List Item} → Told offset bs k false is → n + k ≡ length bs / 12 → Prints offset bs (is ++ lines_from n k offset bs)
+prints_from : (n k offset : ℕ) (bs : List ℕ) {is : List Item} → Told offset bs k false is → n + k ≡ length bs / 12 → Prints offset bs (is ++ lines_from n k offset bs)
 unfolding lines_from
-prints-from zero k offset bs {is} p h = rw (sym e) at (whole (rw e at p))
+prints_from zero k offset bs {is} p h = rw (sym e) at (whole (rw e at p))
   where
     e : k ≡ length bs / 12
     e = omega (arith, h)
-prints-from (suc n) k offset bs {is} p h = go (λ q. prints-from n (suc k) offset bs q (omega arith)) (ends_at i) refl
+prints_from (suc n) k offset bs {is} p h = go (λ q. prints_from n (suc k) offset bs q (omega arith)) (ends_at i) refl
   where
     i : Item
-    i = line_of (recordAt bs k) (offsetAt offset k)
+    i = line_of (record_at bs k) (offset_after offset k)
 
     told : Told offset bs (suc k) (ends_at i) (is ++ (i ∷ []))
-    told = more i p (line-right (recordAt bs k) (offsetAt offset k))
+    told = more i p (line_right (record_at bs k) (offset_after offset k))
 
     go : (Told offset bs (suc k) false (is ++ (i ∷ [])) → Prints offset bs ((is ++ (i ∷ [])) ++ lines_from n (suc k) offset bs))
         → (b : Bool) → ends_at i ≡ b → Prints offset bs (is ++ (i ∷ cond b [] (lines_from n (suc k) offset bs)))
     go rest false t = rw append_assoc at (rest (rw t at told))
     go rest true t = ended (rw t at told) (omega arith)
 
-pub prints-some : (offset : ℕ) (bs : List ℕ) → Prints offset bs (lines_of offset bs)
+pub prints_some : (offset : ℕ) (bs : List ℕ) → Prints offset bs (lines_of offset bs)
 unfolding lines_of
-prints-some offset bs = prints-from (length bs / 12) 0 offset bs none (omega arith)
+prints_some offset bs = prints_from (length bs / 12) 0 offset bs none (omega arith)
 
-pub the-lines : (offset : ℕ) (bs : List ℕ) (is : List Item) → Prints offset bs is → is ≡ lines_of offset bs
-the-lines offset bs is h = prints-determined offset bs is (lines_of offset bs) h (prints-some offset bs)
+pub the_lines : (offset : ℕ) (bs : List ℕ) (is : List Item) → Prints offset bs is → is ≡ lines_of offset bs
+the_lines offset bs is h = prints_determined offset bs is (lines_of offset bs) h (prints_some offset bs)

@@ -1,7 +1,9 @@
 // Twelve bytes by value to the answer of their line, and the tail of an input to its own.
+#![tactic(auto)]
+
 ghost use Rattle.std.specs.Prelude.{◌≡◌, ◌+◌, ◌*◌, ◌^◌, ◌<◌};
 ghost use Rattle.lines.specs.Item.{items_of};
-ghost use Rattle.records.specs.Records.{Asked, askedBy, marked, value_of, Says, LineOf, tailOf};
+ghost use Rattle.records.specs.Records.{Asked, asked_by, marked, value_of, Says, LineOf, tail_of};
 ghost use Rattle.records.specs.Answers.{OneLine};
 
 use immediates::Imm8Answer;
@@ -66,7 +68,7 @@ fn of_float(value: u64) -> Answer
 }
 
 fn asked(kind: u8, register: u8, value: u64) -> Answer
-    ensures { OneLine (Says (askedBy kind) register value) result }
+    ensures { OneLine (Says (asked_by kind) register value) result }
 {
     match kind {
         1 => of_move(register, value),
@@ -89,7 +91,7 @@ pub fn answer(r: [u8; 12], offset: u64) -> Answer
 
 // The answer of what is left of an input behind its last record. Twelve bytes or more are no tail.
 pub fn tail(count: usize, offset: u64) -> Answer
-    ensures { items_of result ≡ tailOf count offset }
+    ensures { items_of result ≡ tail_of count offset }
 {
     if count == 0 {
         return Answer::Nothing;

@@ -6,9 +6,9 @@ use Rattle.registers.specs.declared.ShiftAnswer.{ShiftAnswer}
 use Rattle.registers.specs.declared.ShiftAnswer.TheVariants.{Entry, NoEntry}
 
 -- document 01's number and value for each answer
-abbrev pub saidEntry : ShiftAnswer → Said ℕ
-saidEntry (Entry x) = ok x
-saidEntry (NoEntry r) = no (number_of r)
+abbrev pub said_entry : ShiftAnswer → Said ℕ
+said_entry (Entry x) = ok x
+said_entry (NoEntry r) = no (number_of r)
 
 -- "at 0..15: 3, 255 seven times, 2, 255 three times, 6, 7, 255, 255"
 abbrev pub shifts : List ℕ

@@ -1,51 +1,53 @@
 // Module 2: checks of register numbers, the condition field, and the map of shift operations to those of loads and stores.
+#![tactic(auto)]
+
 ghost use Rattle.std.specs.Prelude.{◌≡◌, ◌&&◌};
-ghost use Rattle.registers.specs.Checks.{gpOk, vecOk, condField};
-ghost use Rattle.registers.specs.Shifts.{saidEntry, shift_of};
+ghost use Rattle.registers.specs.Checks.{gp_ok, vec_ok, cond_field};
+ghost use Rattle.registers.specs.Shifts.{said_entry, shift_of};
 
 use words::Refusal;
 
 // A general register: below 31, or the high id that the caller names.
 pub fn check_gp_id(id: u32, hi: u32) -> bool
-    ensures { result ≡ gpOk id hi }
+    ensures { result ≡ gp_ok id hi }
 {
     id < 31 || id == hi
 }
 
 pub fn check_gp_id2(id0: u32, id1: u32, hi: u32) -> bool
-    ensures { result ≡ (gpOk id0 hi && gpOk id1 hi) }
+    ensures { result ≡ (gp_ok id0 hi && gp_ok id1 hi) }
 {
     check_gp_id(id0, hi) && check_gp_id(id1, hi)
 }
 
 pub fn check_gp_id3(id0: u32, id1: u32, id2: u32, hi: u32) -> bool
-    ensures { result ≡ (gpOk id0 hi && (gpOk id1 hi && gpOk id2 hi)) }
+    ensures { result ≡ (gp_ok id0 hi && (gp_ok id1 hi && gp_ok id2 hi)) }
 {
     check_gp_id(id0, hi) && check_gp_id2(id1, id2, hi)
 }
 
 // A vector register: below 32.
 pub fn check_vec_id(id: u32) -> bool
-    ensures { result ≡ vecOk id }
+    ensures { result ≡ vec_ok id }
 {
     id < 32
 }
 
 pub fn check_vec_id2(id0: u32, id1: u32) -> bool
-    ensures { result ≡ (vecOk id0 && vecOk id1) }
+    ensures { result ≡ (vec_ok id0 && vec_ok id1) }
 {
     check_vec_id(id0) && check_vec_id(id1)
 }
 
 pub fn check_vec_id3(id0: u32, id1: u32, id2: u32) -> bool
-    ensures { result ≡ (vecOk id0 && (vecOk id1 && vecOk id2)) }
+    ensures { result ≡ (vec_ok id0 && (vec_ok id1 && vec_ok id2)) }
 {
     check_vec_id(id0) && check_vec_id2(id1, id2)
 }
 
 // The condition field of a condition code.
 pub fn cond_code_to_opcode_field(cond: u32) -> u32
-    ensures { result ≡ condField cond }
+    ensures { result ≡ cond_field cond }
 {
     std::num::wrapping_sub_u32(cond, 2) % 16
 }
@@ -55,7 +57,7 @@ const SHIFT_OP_TO_LD_ST_OP_MAP: [u8; 16] = [
 ];
 
 // An entry of the map; 255, which stands for none, is an ordinary answer.
-#[derive(Drop)]
+#[derive(Clone, Copy)]
 pub enum ShiftAnswer {
     Entry(u32),
     NoEntry(Refusal),
@@ -69,7 +71,7 @@ fn wide(x: u8) -> u32
 
 // What a load or store has for a shift operation.
 pub fn shift_op_to_ld_st_op(op: u32) -> ShiftAnswer
-    ensures { saidEntry result ≡ shift_of op }
+    ensures { said_entry result ≡ shift_of op }
 {
     if 15 < op {
         return ShiftAnswer::NoEntry(Refusal::Unknown);

@@ -1,12 +1,14 @@
 // Requests from standard input, each answered by the entry that it names: what stored answers are replayed through. A request is 72 bytes,
 // nine numbers of 8 bytes, low byte first: the entry's number and eight arguments.
+#![tactic(auto)]
+
 mod answers;
 mod runs;
 
 ghost use Rattle.std.specs.Prelude.{◌<◌, ◌≤◌};
 
 // The entry's number and its arguments.
-#[derive(Drop)]
+#[derive(Clone, Copy)]
 pub(crate) struct Request {
     pub(crate) entry: u64,
     pub(crate) a: u64,

@@ -1,18 +1,18 @@
 -- `encode_lmh`'s contract allows one answer: it is an equation of what is said, and that is all of the answer. Assumes nothing.
 use mathlib.Core.Path.{◌≡◌, refl, ap}
-use Rattle.words.proofs.Answers.{all_said, answered, refusal-back}
+use Rattle.words.proofs.Answers.{all_said, answered, refusal_back}
 use Rattle.words.proofs.Contracts.{OneAnswer, one_answer}
 use Rattle.simd.specs.declared.LmhAnswer.{LmhAnswer}
 use Rattle.simd.specs.declared.LmhAnswer.TheVariants as lmh
-use Rattle.simd.specs.Lmh.{lmhSaid}
-use Rattle.simd.proofs.encode_lmh.Reads as encode-lmh
+use Rattle.simd.specs.Lmh.{lmh_said}
+use Rattle.simd.proofs.encode_lmh.Reads as encode_lmh
 
-lmh-back : (r : LmhAnswer) → answered lmh.Lmh lmh.NoLmh (lmhSaid r) ≡ r
-lmh-back (lmh.Lmh f) = refl
-lmh-back (lmh.NoLmh r) = ap lmh.NoLmh (refusal-back r)
+lmh_back : (r : LmhAnswer) → answered lmh.Lmh lmh.NoLmh (lmh_said r) ≡ r
+lmh_back (lmh.Lmh f) = refl
+lmh_back (lmh.NoLmh r) = ap lmh.NoLmh (refusal_back r)
 
-lmh-all : (r s : LmhAnswer) → lmhSaid r ≡ lmhSaid s → r ≡ s
-lmh-all = all_said lmhSaid (answered lmh.Lmh lmh.NoLmh) lmh-back
+lmh_all : (r s : LmhAnswer) → lmh_said r ≡ lmh_said s → r ≡ s
+lmh_all = all_said lmh_said (answered lmh.Lmh lmh.NoLmh) lmh_back
 
-pub encode-lmh-determined : OneAnswer encode-lmh.Post
-encode-lmh-determined k a r s x y p q = lmh-all r s (one_answer p q)
+pub encode_lmh_determined : OneAnswer encode_lmh.Post
+encode_lmh_determined k a r s x y p q = lmh_all r s (one_answer p q)

@@ -7,13 +7,13 @@ use Rattle.simd.specs.declared.LmhAnswer.{LmhAnswer}
 use Rattle.simd.specs.declared.LmhAnswer.TheVariants as answer
 
 -- the fields and the limit, or the number of a refusal
-abbrev pub lmhSaid : LmhAnswer → Said Lmh
-lmhSaid (answer.Lmh f) = ok f
-lmhSaid (answer.NoLmh r) = no (number_of r)
+abbrev pub lmh_said : LmhAnswer → Said Lmh
+lmh_said (answer.Lmh f) = ok f
+lmh_said (answer.NoLmh r) = no (number_of r)
 
 -- "order 7, 9: size 1, index to 7, h = index/4, lm = index mod 4, limit 15; size 2, index to 3, h = index/2, lm = 2·(index mod 2), limit 31"
-unfoldable pub lmhOf : ℕ → ℕ → Said Lmh
-lmhOf size index =
+unfoldable pub lmh_of : ℕ → ℕ → Said Lmh
+lmh_of size index =
     cond (eqb size 1) (cond (ltb 7 index) (no 9) (ok (record { lm = index % 4; h = index / 4; max_rm_id = 15 })))
     (cond (eqb size 2) (cond (ltb 3 index) (no 9) (ok (record { lm = 2 * (index % 2); h = index / 2; max_rm_id = 31 })))
     (no 7))

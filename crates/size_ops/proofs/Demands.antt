@@ -8,7 +8,7 @@ use lib.Dec.{ltb}
 use Rattle.words.specs.Said.{Said, ok, no}
 use Rattle.words.specs.Bit.{bit_of}
 use Rattle.simd.proofs.Laws.{either}
-use Rattle.size_ops.specs.SizeOp.{entry_of, acceptedOf, sizeOpOf}
+use Rattle.size_ops.specs.SizeOp.{entry_of, accepted_of, size_op_of}
 
 abbrev Seven : Said ℕ → Type 0
 Seven a = a ≡ no 7
@@ -17,22 +17,22 @@ Seven a = a ≡ no 7
 module _ (table mask accept kind element : ℕ) where
   pub size-op-known :
       table ≤ 1 → kind ≤ 7 → element ≤ 7
-      → sizeOpOf table mask accept kind element ≡ ok (acceptedOf mask accept (entry_of table kind element))
-  unfolding sizeOpOf
+      → size_op_of table mask accept kind element ≡ ok (accepted_of mask accept (entry_of table kind element))
+  unfolding size_op_of
   size-op-known t k e = simp (le-ltb 1 table t, le-ltb 7 kind k, le-ltb 7 element e)
 
-  pub size-op-unknown : (1 < table) ⊎ (7 < kind) ⊎ (7 < element) → sizeOpOf table mask accept kind element ≡ no 7
-  unfolding sizeOpOf
-  size-op-unknown (inl h) = simp (lt-ltb 1 table h)
-  size-op-unknown (inr (inl h)) = either Seven (ltb 1 table) _ _ (λ t. refl) (λ t. simp (lt-ltb 7 kind h))
-  size-op-unknown (inr (inr h)) =
+  pub size_op_unknown : (1 < table) ⊎ (7 < kind) ⊎ (7 < element) → size_op_of table mask accept kind element ≡ no 7
+  unfolding size_op_of
+  size_op_unknown (inl h) = simp (lt-ltb 1 table h)
+  size_op_unknown (inr (inl h)) = either Seven (ltb 1 table) _ _ (λ t. refl) (λ t. simp (lt-ltb 7 kind h))
+  size_op_unknown (inr (inr h)) =
       either Seven (ltb 1 table) _ _ (λ t. refl) (λ t. either Seven (ltb 7 kind) _ _ (λ k. refl) (λ k. simp (lt-ltb 7 element h)))
 
 -- "FF, or an entry that is no bit of the accept mask, gives FF"
-pub ff-is-answered : (mask accept : ℕ) → acceptedOf mask accept 0xFF ≡ 0xFF
-unfolding acceptedOf
-ff-is-answered mask accept = refl
+pub ff_is_answered : (mask accept : ℕ) → accepted_of mask accept 0xFF ≡ 0xFF
+unfolding accepted_of
+ff_is_answered mask accept = refl
 
-pub not-accepted : (mask accept entry : ℕ) → bit_of accept entry ≡ false → acceptedOf mask accept entry ≡ 0xFF
-unfolding acceptedOf
-not-accepted mask accept entry h = simp h
+pub not_accepted : (mask accept entry : ℕ) → bit_of accept entry ≡ false → accepted_of mask accept entry ≡ 0xFF
+unfolding accepted_of
+not_accepted mask accept entry h = simp h

@@ -43,13 +43,13 @@ eight = 0 ∷ 1 ∷ 2 ∷ 3 ∷ 4 ∷ 5 ∷ 6 ∷ 7 ∷ []
 abbrev right : ℕ → ℕ → ℕ → ℕ → Bool
 right table kind element k = eqb (byte_of table kind element) (entry_of table kind element)
 
-abbrev rightRow : ℕ → ℕ → ℕ → Bool
-rightRow table kind k = every (right table kind) 0 eight
+abbrev right_row : ℕ → ℕ → ℕ → Bool
+right_row table kind k = every (right table kind) 0 eight
 
-abbrev rightTable : ℕ → ℕ → Bool
-rightTable table k = every (rightRow table) 0 eight
+abbrev right_table : ℕ → ℕ → Bool
+right_table table k = every (right_row table) 0 eight
 
 pub rule : (table kind element : ℕ) → table < 2 → kind < 8 → element < 8 → byte_of table kind element ≡ entry_of table kind element
 unfolding entry_of
 rule table kind element ht hk he =
-    eqb→eq _ _ (at (right table kind) 0 eight (at (rightRow table) 0 eight (at rightTable 0 two tt table ht) kind hk) element he)
+    eqb→eq _ _ (at (right table kind) 0 eight (at (right_row table) 0 eight (at right_table 0 two tt table ht) kind hk) element he)

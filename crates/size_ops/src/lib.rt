@@ -1,19 +1,21 @@
 // Module 9: the size op of a SIMD instruction, by its map entry, the kind of its registers and their elements.
 // Kinds and elements have the numbers that the crate simd lists.
+#![tactic(auto)]
+
 ghost use Rattle.std.specs.Prelude.{◌≡◌, ◌<◌};
-ghost use Rattle.size_ops.specs.SizeOp.{sizeOpSaid, entry_of, sizeOpOf};
+ghost use Rattle.size_ops.specs.SizeOp.{size_op_said, entry_of, size_op_of};
 
 use words::Refusal;
 
 // The map entry of an instruction: the table, the bits that its size op keeps, and the size ops that it accepts.
-#[derive(Drop)]
+#[derive(Clone, Copy)]
 pub struct SizeOpMap {
     pub table_id: u32,
     pub size_op_mask: u32,
     pub accept_mask: u32,
 }
 
-#[derive(Drop)]
+#[derive(Clone, Copy)]
 pub enum SizeOpAnswer {
     SizeOp(u32),
     NoSizeOp(Refusal),
@@ -52,7 +54,7 @@ fn size_op_entry(table: u32, kind: u32, element: u32) -> u32
 
 // The size op of a kind and an element; FF where the map does not accept it.
 pub fn element_type_to_size_op(map: SizeOpMap, kind: u32, element: u32) -> SizeOpAnswer
-    ensures { sizeOpSaid result ≡ sizeOpOf map.table_id map.size_op_mask map.accept_mask kind element }
+    ensures { size_op_said result ≡ size_op_of map.table_id map.size_op_mask map.accept_mask kind element }
 {
     let table = map.table_id;
     if table > 1 {

@@ -11,7 +11,7 @@ use Rattle.arm.specs.Bits.{bits}
 use Rattle.words.specs.Said.{ok, no}
 use Rattle.words.proofs.Answers.{Short}
 use Rattle.wide_moves.specs.declared.WideMove.{WideMove}
-use Rattle.wide_moves.specs.Wide.{composed, wideSaid}
+use Rattle.wide_moves.specs.Wide.{composed, wide_said}
 use Rattle.wide_moves.proofs.Wides.{Passes, fields_of}
 
 either : (b : Bool) {c : Bool} → c ≡ true → (b || c) ≡ true
@@ -21,37 +21,37 @@ either false q = q
 -- ---- what is said of fields
 
 module _ (m : WideMove) where
-  pub said-1 : m.opc ≡ 1 → wideSaid m ≡ no 7
-  unfolding wideSaid
-  said-1 a = rw a
+  pub said_1 : m.opc ≡ 1 → wide_said m ≡ no 7
+  unfolding wide_said
+  said_1 a = rw a
 
-  pub said-above : 3 < m.opc → wideSaid m ≡ no 7
-  unfolding wideSaid
-  said-above a = rw (either (eqb m.opc 1) (lt-ltb 3 m.opc a))
+  pub said_above : 3 < m.opc → wide_said m ≡ no 7
+  unfolding wide_said
+  said_above a = rw (either (eqb m.opc 1) (lt-ltb 3 m.opc a))
 
   module _ (one : m.opc ≡ 1 → ⊥) (op : m.opc ≤ 3) where
-    pub said-size : 1 < m.sf → wideSaid m ≡ no 1
-    unfolding wideSaid
-    said-size a = rw (ne_eqb m.opc 1 one, le-ltb 3 m.opc op, lt-ltb 1 m.sf a)
+    pub said_size : 1 < m.sf → wide_said m ≡ no 1
+    unfolding wide_said
+    said_size a = rw (ne_eqb m.opc 1 one, le-ltb 3 m.opc op, lt-ltb 1 m.sf a)
 
     module _ (sf : m.sf ≤ 1) where
-      pub said-register : 30 < m.rd → wideSaid m ≡ no 2
-      unfolding wideSaid
-      said-register a = rw (ne_eqb m.opc 1 one, le-ltb 3 m.opc op, le-ltb 1 m.sf sf, lt-ltb 30 m.rd a)
+      pub said_register : 30 < m.rd → wide_said m ≡ no 2
+      unfolding wide_said
+      said_register a = rw (ne_eqb m.opc 1 one, le-ltb 3 m.opc op, le-ltb 1 m.sf sf, lt-ltb 30 m.rd a)
 
       module _ (rd : m.rd ≤ 30) where
-        pub said-place : 2 + 2 * m.sf ≤ m.hw → wideSaid m ≡ no 3
-        unfolding wideSaid
-        said-place a = rw (ne_eqb m.opc 1 one, le-ltb 3 m.opc op, le-ltb 1 m.sf sf, le-ltb 30 m.rd rd, le-leb (2 + 2 * m.sf) m.hw a)
+        pub said_place : 2 + 2 * m.sf ≤ m.hw → wide_said m ≡ no 3
+        unfolding wide_said
+        said_place a = rw (ne_eqb m.opc 1 one, le-ltb 3 m.opc op, le-ltb 1 m.sf sf, le-ltb 30 m.rd rd, le-leb (2 + 2 * m.sf) m.hw a)
 
-        pub said-halfword : 65535 < m.imm16 → wideSaid m ≡ no 3
-        unfolding wideSaid
-        said-halfword a =
+        pub said_halfword : 65535 < m.imm16 → wide_said m ≡ no 3
+        unfolding wide_said
+        said_halfword a =
             rw (ne_eqb m.opc 1 one, le-ltb 3 m.opc op, le-ltb 1 m.sf sf, le-ltb 30 m.rd rd, either (leb (2 + 2 * m.sf) m.hw) (lt-ltb 65535 m.imm16 a))
 
-        pub said-word : m.hw < 2 + 2 * m.sf → m.imm16 ≤ 65535 → wideSaid m ≡ ok (composed m ∷ [])
-        unfolding wideSaid
-        said-word a b =
+        pub said_word : m.hw < 2 + 2 * m.sf → m.imm16 ≤ 65535 → wide_said m ≡ ok (composed m ∷ [])
+        unfolding wide_said
+        said_word a b =
             rw (ne_eqb m.opc 1 one, le-ltb 3 m.opc op, le-ltb 1 m.sf sf, le-ltb 30 m.rd rd, lt-leb (2 + 2 * m.sf) m.hw a, le-ltb 65535 m.imm16 b)
 
 -- ---- a word of its own fields
@@ -72,7 +72,7 @@ composed-same w l p =
         → sf * 2 ^ 31 + opc * 2 ^ 29 + 0b100101 * 2 ^ 23 + hw * 2 ^ 21 + imm * 2 ^ 5 + rd ≡ w
     sum w a b c d sf rd imm hw opc p q r s t = omega arith
 
-pub wide-again : (w : ℕ) → w < 2 ^ 32 → Passes w → wideSaid (fields_of w) ≡ ok (w ∷ [])
-wide-again w l p =
+pub wide_again : (w : ℕ) → w < 2 ^ 32 → Passes w → wide_said (fields_of w) ≡ ok (w ∷ [])
+wide_again w l p =
     let r = p.register in
-    said-word (fields_of w) p.opc (omega arith) (omega arith) (omega arith) p.size (omega arith) ∙ ap (λ (k : ℕ). ok (k ∷ [])) (composed-same w l p)
+    said_word (fields_of w) p.opc (omega arith) (omega arith) (omega arith) p.size (omega arith) ∙ ap (λ (k : ℕ). ok (k ∷ [])) (composed-same w l p)

@@ -7,7 +7,7 @@ use Rattle.arm.proofs.Worked.{Worked}
 use Rattle.words.specs.Said.{ok, no}
 use Rattle.wide_moves.specs.declared.WideAnswer.TheVariants.{Move, NoMove}
 use Rattle.wide_moves.specs.declared.WideMove.{WideMove}
-use Rattle.wide_moves.specs.Wide.{wide_of, wideSaid}
+use Rattle.wide_moves.specs.Wide.{wide_of, wide_said}
 
 abbrev wide : (sf opc hw imm16 rd : ℕ) → WideMove
 wide sf opc hw imm16 rd = record { sf = sf; opc = opc; hw = hw; imm16 = imm16; rd = rd }
@@ -27,16 +27,16 @@ read = refl
 
 pub written :
     Worked
-    ((wideSaid (wide 1 2 0 0x1234 3), ok (0xD2824683 ∷ []))
-    ∷ (wideSaid (wide 0 0 1 0xFFFE 0), ok (0x12BFFFC0 ∷ []))
-    ∷ (wideSaid (wide 1 3 3 1 30), ok (0xF2E0003E ∷ []))
-    ∷ (wideSaid (wide 2 1 4 0x10000 31), no 7)  -- the order of the refusals
-    ∷ (wideSaid (wide 2 4 4 0x10000 31), no 7)
-    ∷ (wideSaid (wide 2 3 4 0x10000 31), no 1)
-    ∷ (wideSaid (wide 1 3 4 0x10000 31), no 2)
-    ∷ (wideSaid (wide 1 3 4 0xFFFF 30), no 3)
-    ∷ (wideSaid (wide 0 3 2 0xFFFF 30), no 3)
-    ∷ (wideSaid (wide 1 3 3 0x10000 30), no 3)
+    ((wide_said (wide 1 2 0 0x1234 3), ok (0xD2824683 ∷ []))
+    ∷ (wide_said (wide 0 0 1 0xFFFE 0), ok (0x12BFFFC0 ∷ []))
+    ∷ (wide_said (wide 1 3 3 1 30), ok (0xF2E0003E ∷ []))
+    ∷ (wide_said (wide 2 1 4 0x10000 31), no 7)  -- the order of the refusals
+    ∷ (wide_said (wide 2 4 4 0x10000 31), no 7)
+    ∷ (wide_said (wide 2 3 4 0x10000 31), no 1)
+    ∷ (wide_said (wide 1 3 4 0x10000 31), no 2)
+    ∷ (wide_said (wide 1 3 4 0xFFFF 30), no 3)
+    ∷ (wide_said (wide 0 3 2 0xFFFF 30), no 3)
+    ∷ (wide_said (wide 1 3 3 0x10000 30), no 3)
     ∷ [])
-unfolding wideSaid
+unfolding wide_said
 written = refl

@@ -1,14 +1,16 @@
 // Request a of document 02: a MOVZ, MOVN or MOVK read from a word by its fields, and written again from them.
+#![tactic(auto)]
+
 ghost use Rattle.std.specs.Prelude.{◌≡◌};
 ghost use Rattle.arm.specs.MoveWide.{decode};
 ghost use Rattle.words.specs.Answer.{made};
 ghost use Rattle.words.specs.Listed.{packed};
-ghost use Rattle.wide_moves.specs.Wide.{wide_of, wideSaid};
+ghost use Rattle.wide_moves.specs.Wide.{wide_of, wide_said};
 
 use words::{Opc, Refusal, Worded};
 
 // The fields of a wide move: sf is 1 at size 64 and 0 at size 32; opc is 0 for MOVN, 2 for MOVZ, 3 for MOVK; hw is the halfword's place.
-#[derive(Drop)]
+#[derive(Clone, Copy)]
 pub struct WideMove {
     pub sf: u32,
     pub opc: u32,
@@ -17,7 +19,7 @@ pub struct WideMove {
     pub rd: u32,
 }
 
-#[derive(Drop)]
+#[derive(Clone, Copy)]
 pub enum WideAnswer {
     Move(WideMove),
     NoMove,
@@ -56,7 +58,7 @@ pub fn read_wide(w: Opc) -> WideAnswer
 
 // The word of a wide move's fields: 7, 1, 2, 3.
 pub fn write_wide(m: WideMove) -> Worded
-    ensures { made result ≡ packed (wideSaid m) }
+    ensures { made result ≡ packed (wide_said m) }
 {
     if m.opc == 1 {
         return Worded::Not(Refusal::Unknown);

@@ -23,11 +23,11 @@ pub one_answer : {A : Type 0} {x y z : A} → x ≡ z → y ≡ z → x ≡ y
 one_answer p q = p ∙ sym q
 
 -- and so are the parts of two pairs
-pub one-pair : {A B : Type 0} {a c : A} {b d : B} {z : A × B} → (a, b) ≡ z → (c, d) ≡ z → (a ≡ c) × (b ≡ d)
-one-pair {A} {B} {a} {c} {b} {d} p q =
+pub one_pair : {A B : Type 0} {a c : A} {b d : B} {z : A × B} → (a, b) ≡ z → (c, d) ≡ z → (a ≡ c) × (b ≡ d)
+one_pair {A} {B} {a} {c} {b} {d} p q =
     let e : ◌≡◌ {A = A × B} (a, b) (c, d) = one_answer p q in
     (ap (λ (k : A × B). k.0) e, ap (λ (k : A × B). k.1) e)
 
 -- a writer's answer, and the run after it
-pub one-write : (r s : Written) {l m : List ℕ} {z : Said Place × List ℕ} → (said r, l) ≡ z → (said s, m) ≡ z → (r ≡ s) × (l ≡ m)
-one-write r s p q = let e = one-pair p q in (said_all r s e.0, e.1)
+pub one_write : (r s : Written) {l m : List ℕ} {z : Said Place × List ℕ} → (said r, l) ≡ z → (said s, m) ≡ z → (r ≡ s) × (l ≡ m)
+one_write r s p q = let e = one_pair p q in (said_all r s e.0, e.1)

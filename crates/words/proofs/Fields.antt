@@ -23,8 +23,8 @@ part-part p n q l w lo hi =
     ∙ ap (λ (v : ℕ). v % 2 ^ l) (shr-shr w p (q - p) ∙ ap (λ (k : ℕ). w / 2 ^ k) c)
 
 -- a slice that ends at or below the field
-pub part-below : (p q l w g : ℕ) → q + l ≤ p → part q l (w + g * 2 ^ p) ≡ part q l w
-part-below p q l w g h =
+pub part_below : (p q l w g : ℕ) → q + l ≤ p → part q l (w + g * 2 ^ p) ≡ part q l w
+part_below p q l w g h =
     let e : p ≡ p - (q + l) + (l + q) = omega arith in
     let f : g * 2 ^ p ≡ g * 2 ^ (p - (q + l)) * 2 ^ l * 2 ^ q =
     ap (λ (k : ℕ). g * 2 ^ k) e ∙ simp (pow-add 2 (p - (q + l)) (l + q), pow-add 2 l q) (omega arith) in
@@ -35,18 +35,18 @@ module _ (p n w g : ℕ) (free : part p n w ≡ 0) (fits : g < 2 ^ n) where
   whole : (w + g * 2 ^ p) / 2 ^ p ≡ w / 2 ^ p / 2 ^ n * 2 ^ n + g
   whole = add-mul-div_right w g (pow_pos p) ∙ omega (arith, div-add-mod' (w / 2 ^ p) (2 ^ n))
 
-  pub part-there : part p n (w + g * 2 ^ p) ≡ g
-  part-there = rw whole (digits_mod (w / 2 ^ p / 2 ^ n) fits)
+  pub part_there : part p n (w + g * 2 ^ p) ≡ g
+  part_there = rw whole (digits_mod (w / 2 ^ p / 2 ^ n) fits)
 
   -- what stands at or above the field's end
-  pub high-kept : (q : ℕ) → p + n ≤ q → (w + g * 2 ^ p) / 2 ^ q ≡ w / 2 ^ q
-  high-kept q h =
+  pub high_kept : (q : ℕ) → p + n ≤ q → (w + g * 2 ^ p) / 2 ^ q ≡ w / 2 ^ q
+  high_kept q h =
       let e : p + n + (q - (p + n)) ≡ q = omega arith in
       let at : (v : ℕ) → v / 2 ^ p / 2 ^ n / 2 ^ (q - (p + n)) ≡ v / 2 ^ q = λ v. rw (shr-shr v p n, shr-shr v (p + n) (q - (p + n)), e) refl in
       sym (at (w + g * 2 ^ p)) ∙ rw (whole, digits_div (w / 2 ^ p / 2 ^ n) fits) (at w)
 
-  pub part-above : (q l : ℕ) → p + n ≤ q → part q l (w + g * 2 ^ p) ≡ part q l w
-  part-above q l h = ap (λ (v : ℕ). v % 2 ^ l) (high-kept q h)
+  pub part_above : (q l : ℕ) → p + n ≤ q → part q l (w + g * 2 ^ p) ≡ part q l w
+  part_above q l h = ap (λ (v : ℕ). v % 2 ^ l) (high_kept q h)
 
 -- ---- a field taken out of the word
 
@@ -58,8 +58,8 @@ module _ (p n w : ℕ) where
   parts : w ≡ (above * 2 ^ n + part p n w) * 2 ^ p + w % 2 ^ p
   parts = sym (div-add-mod' w (2 ^ p)) ∙ ap (λ (q : ℕ). q * 2 ^ p + w % 2 ^ p) (sym (div-add-mod' (w / 2 ^ p) (2 ^ n)))
 
-  pub part-le : part p n w * 2 ^ p ≤ w
-  part-le = omega (arith, parts)
+  pub part_le : part p n w * 2 ^ p ≤ w
+  part_le = omega (arith, parts)
 
   rest : w - part p n w * 2 ^ p ≡ above * 2 ^ n * 2 ^ p + w % 2 ^ p
   rest = omega (arith, parts)
@@ -73,13 +73,13 @@ module _ (p n w : ℕ) where
 abbrev pub bit : ℕ → ℕ → ℕ
 bit q w = part q 1 w
 
-pub bit-of-clear : (p n w : ℕ) → part p n w ≡ 0 → (q : ℕ) → p ≤ q → q < p + n → bit q w ≡ 0
-bit-of-clear p n w e q lo hi = sym (part-part p n q 1 w lo (omega arith)) ∙ ap (part (q - p) 1) e ∙ ap (λ (v : ℕ). v % 2 ^ 1) (zero-div (2 ^ (q - p)))
+pub bit_of_clear : (p n w : ℕ) → part p n w ≡ 0 → (q : ℕ) → p ≤ q → q < p + n → bit q w ≡ 0
+bit_of_clear p n w e q lo hi = sym (part-part p n q 1 w lo (omega arith)) ∙ ap (part (q - p) 1) e ∙ ap (λ (v : ℕ). v % 2 ^ 1) (zero-div (2 ^ (q - p)))
 
-pub clear-of-bits : (p n w : ℕ) → ((q : ℕ) → p ≤ q → q < p + n → bit q w ≡ 0) → part p n w ≡ 0
-clear-of-bits p zero w h = mod-one (w / 2 ^ p)
-clear-of-bits p (suc n) w h =
-    let below = clear-of-bits p n w (λ q lo hi. h q lo (omega arith)) in
+pub clear_of_bits : (p n w : ℕ) → ((q : ℕ) → p ≤ q → q < p + n → bit q w ≡ 0) → part p n w ≡ 0
+clear_of_bits p zero w h = mod-one (w / 2 ^ p)
+clear_of_bits p (suc n) w h =
+    let below = clear_of_bits p n w (λ q lo hi. h q lo (omega arith)) in
     let top : w / 2 ^ p / 2 ^ n % 2 ^ 1 ≡ 0 = ap (λ (v : ℕ). v % 2 ^ 1) (shr-shr w p n) ∙ h (p + n) (omega arith) (omega arith) in
     let more : suc n ≡ 1 + n = omega arith in
     ap (λ (k : ℕ). w / 2 ^ p % 2 ^ k) more ∙ mod-pow-add (w / 2 ^ p) 1 n ∙ rw (top, below) (omega arith)

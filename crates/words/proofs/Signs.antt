@@ -8,6 +8,6 @@ below-zero (pos n) f t = omega (arith, ltb-true n 0 t)
 below-zero (negsuc n) f t = omega (arith, f.sfits)
 
 -- else the bits are below half
-pub not-below-zero : (d : ℤ) → SFits w64 d → lt_z d (pos 0) ≡ false → of_z w64 d < 2 ^ 63
-not-below-zero (pos n) f t = omega (arith, f.sfits)
-not-below-zero (negsuc n) f t = let z : ◌≡◌ {A = ℕ} 0 1 = cc in omega arith
+pub not_below_zero : (d : ℤ) → SFits w64 d → lt_z d (pos 0) ≡ false → of_z w64 d < 2 ^ 63
+not_below_zero (pos n) f t = omega (arith, f.sfits)
+not_below_zero (negsuc n) f t = let z : ◌≡◌ {A = ℕ} 0 1 = cc in omega arith

@@ -34,8 +34,8 @@ abbrev pub refusals : List Refusal
 refusals =
     Width ∷ Width ∷ Register ∷ NoField ∷ Step ∷ Range ∷ Taken ∷ Unknown ∷ NoRoom ∷ Index ∷ ZeroBase ∷ WrongForm ∷ Label ∷ Twice ∷ Full ∷ Unaligned ∷ Again ∷ []
 
-abbrev pub refusalOf : ℕ → Refusal
-refusalOf n = slice_index_or refusals n Width
+abbrev pub refusal_of : ℕ → Refusal
+refusal_of n = slice_index_or refusals n Width
 
 -- a number that some refusal has
 abbrev pub IsNumber : ℕ → Type 0

@@ -1,39 +1,41 @@
 // Module 1: addresses, positions, distances and opcode words, each a type of its own; places in code; the refusals; up to four words by value;
 // masks of low bits, the bit test, and signed numbers as 64 bits.
+#![tactic(auto)]
+
 ghost use Rattle.std.specs.Prelude.{◌≡◌, ◌%◌, ◌^◌, min, [], ◌∷◌};
 ghost use Rattle.std.specs.Int.{w64};
 ghost use Rattle.std.proofs.Common.{to_z, of_z};
 ghost use Rattle.arm.specs.Bits.{Ones};
-ghost use Rattle.words.specs.Answer.{number_of, refusalOf};
+ghost use Rattle.words.specs.Answer.{number_of, refusal_of};
 ghost use Rattle.words.specs.Bit.{bit_of};
 ghost use Rattle.words.specs.Listed.{words_of};
 ghost use Rattle.words.specs.Place.{address_of};
 
 // A place in a run of words, counted in words.
-#[derive(Drop)]
+#[derive(Clone, Copy)]
 pub struct WordPos(pub usize);
 
 // An address in bytes.
-#[derive(Drop)]
+#[derive(Clone, Copy)]
 pub struct Address(pub u64);
 
 // A signed distance in bytes.
-#[derive(Drop)]
+#[derive(Clone, Copy)]
 pub struct ByteDistance(pub i64);
 
 // A place in code: the address of the run's first word, and the position in the run.
-#[derive(Drop)]
+#[derive(Clone, Copy)]
 pub struct Place {
     pub base: Address,
     pub position: WordPos,
 }
 
 // An opcode word.
-#[derive(Drop)]
+#[derive(Clone, Copy)]
 pub struct Opc(pub u32);
 
 // Why a request was turned down; `number` gives the number of document 01 or 02.
-#[derive(Drop)]
+#[derive(Clone, Copy)]
 pub enum Refusal {
     Width,
     Register,
@@ -54,7 +56,7 @@ pub enum Refusal {
 }
 
 // Up to four words: a, b, c, d, as many as the count says.
-#[derive(Drop)]
+#[derive(Clone, Copy)]
 pub struct Words {
     pub count: usize,
     pub a: u32,
@@ -64,14 +66,14 @@ pub struct Words {
 }
 
 // Words by value, for a writer.
-#[derive(Drop)]
+#[derive(Clone, Copy)]
 pub enum Worded {
     Made(Words),
     Not(Refusal),
 }
 
 // What a writer answers: the place just past the last word written.
-#[derive(Drop)]
+#[derive(Clone, Copy)]
 pub enum Written {
     Done(Place),
     No(Refusal),
@@ -123,7 +125,7 @@ const BY_NUMBER: [Refusal; 17] = [
 
 // The refusal that has a number; the first one where none has it.
 pub fn numbered(n: u32) -> Refusal
-    ensures { result ≡ refusalOf n }
+    ensures { result ≡ refusal_of n }
 {
     let i = n as usize;
     if i < 17 { BY_NUMBER[i] } else { Refusal::Width }

@@ -46,8 +46,8 @@ module _ (u : ℕ) (spell : ℕ → List ℕ) (units : (w : ℕ) → length (spe
   again l k w v = over (spell w) (spell v) l ((i + k) * u) (units w ∙ sym (units v))
 
   -- one word more, in front of those that stand from the next place on
-  in-front : (l vs : List ℕ) (k w : ℕ) → stored (sets l ((i + suc k) * u) vs) k w ≡ sets l ((i + k) * u) (spell w ++ vs)
-  in-front l vs k w =
+  in_front : (l vs : List ℕ) (k w : ℕ) → stored (sets l ((i + suc k) * u) vs) k w ≡ sets l ((i + k) * u) (spell w ++ vs)
+  in_front l vs k w =
       let e : (i + suc k) * u ≡ (i + k) * u + length (spell w) = omega (arith, units w) in
       rw e (front (spell w) vs l ((i + k) * u))
 
@@ -62,7 +62,7 @@ module _ (u : ℕ) (spell : ℕ → List ℕ) (units : (w : ℕ) → length (spe
   last_one l k w = ap (sets l ((i + k) * u)) (sym (append-nil (spell w)))
 
   more : (l : List ℕ) (k w : ℕ) (ws : List ℕ) → stored (all l (suc k) ws) k w ≡ all l k (w ∷ ws)
-  more l k w ws = in-front l (flat spell ws) k w
+  more l k w ws = in_front l (flat spell ws) k w
 
   pub stores : (n a b c d : ℕ) (l : List ℕ) → 0 < n → four l (min n 4 - 1) a b c d ≡ all l 0 (take n (a ∷ b ∷ c ∷ d ∷ []))
   stores zero a b c d l h = absurd (omega arith)
@@ -77,22 +77,22 @@ module _ (u : ℕ) (spell : ℕ → List ℕ) (units : (w : ℕ) → length (spe
 abbrev itself : ℕ → List ℕ
 itself w = w ∷ []
 
-flat-words : (ws : List ℕ) → flat itself ws ≡ ws
-flat-words [] = refl
-flat-words (w ∷ ws) = ap (λ (t : List ℕ). w ∷ t) (flat-words ws)
+flat_words : (ws : List ℕ) → flat itself ws ≡ ws
+flat_words [] = refl
+flat_words (w ∷ ws) = ap (λ (t : List ℕ). w ∷ t) (flat_words ws)
 
-flat-bytes : (ws : List ℕ) → flat bytes_of ws ≡ all_bytes ws
-flat-bytes [] = refl
-flat-bytes (w ∷ ws) = ap (λ (t : List ℕ). bytes_of w ++ t) (flat-bytes ws)
+flat_bytes : (ws : List ℕ) → flat bytes_of ws ≡ all_bytes ws
+flat_bytes [] = refl
+flat_bytes (w ∷ ws) = ap (λ (t : List ℕ). bytes_of w ++ t) (flat_bytes ws)
 
 module _ (n i a b c d : ℕ) (l : List ℕ) (some : 0 < n) where
   abbrev near : ℕ → ℕ
   near k = i + min k (min n 4 - 1)
 
-  pub word-stores : set (set (set (set l (near 3) d) (near 2) c) (near 1) b) (near 0) a ≡ sets l i (take n (a ∷ b ∷ c ∷ d ∷ []))
-  word-stores = simp (mul-one, add-zero, flat-words) at (stores 1 itself (λ w. refl) i n a b c d l some)
+  pub word_stores : set (set (set (set l (near 3) d) (near 2) c) (near 1) b) (near 0) a ≡ sets l i (take n (a ∷ b ∷ c ∷ d ∷ []))
+  word_stores = simp (mul-one, add-zero, flat_words) at (stores 1 itself (λ w. refl) i n a b c d l some)
 
   pub byte-stores :
       sets (sets (sets (sets l (near 3 * 4) (bytes_of d)) (near 2 * 4) (bytes_of c)) (near 1 * 4) (bytes_of b)) (near 0 * 4) (bytes_of a)
       ≡ sets l (i * 4) (all_bytes (take n (a ∷ b ∷ c ∷ d ∷ [])))
-  byte-stores = simp (add-zero, flat-bytes) at (stores 4 bytes_of (λ w. refl) i n a b c d l some)
+  byte-stores = simp (add-zero, flat_bytes) at (stores 4 bytes_of (λ w. refl) i n a b c d l some)

@@ -10,10 +10,10 @@ use lib.Dec.{eqb, leb}
 use lib.ListN.{length, set, take, drop, get_or, length-append}
 use lib.Seq.{sets, sets-eq, slice, take_at, drop_at, length-take-le, get_or-set_other}
 use Rattle.words.specs.Said.{Said, ok, no}
-use Rattle.words.specs.Place.{base_of, posOf, on, Aligned}
+use Rattle.words.specs.Place.{base_of, pos_of, on, Aligned}
 use Rattle.words.specs.declared.Place.{Place}
-use Rattle.words.proofs.Answers.{not-both}
-use Rattle.writers.specs.Put.{put_at, putBytesAt, based, atBase, put_of, putBytesOf, all_bytes, words_in}
+use Rattle.words.proofs.Answers.{not_both}
+use Rattle.writers.specs.Put.{put_at, put_bytes_at, based, based_at, put_of, put_bytes_of, all_bytes, words_in}
 use Rattle.writers.specs.Says.{Says, unaligned, refused, full, done, Puts, PutsBytes}
 
 abbrev pub Answer : Type 0
@@ -22,95 +22,95 @@ Answer = Said Place × List ℕ
 -- ---- at a position: the words fit, or there is no room for them
 
 module _ (ws : List ℕ) (at : ℕ) (vs : List ℕ) where
-  pub at-fits : at + length vs ≤ length ws → put_at ws at (ok vs) ≡ (ok (at + length vs), sets ws at vs)
+  pub at_fits : at + length vs ≤ length ws → put_at ws at (ok vs) ≡ (ok (at + length vs), sets ws at vs)
   unfolding put_at
-  at-fits h = simp (le-leb (at + length vs) (length ws) h)
+  at_fits h = simp (le-leb (at + length vs) (length ws) h)
 
-  pub at-full : length ws < at + length vs → put_at ws at (ok vs) ≡ (no 8, ws)
+  pub at_full : length ws < at + length vs → put_at ws at (ok vs) ≡ (no 8, ws)
   unfolding put_at
-  at-full h = simp (lt-leb (at + length vs) (length ws) h)
+  at_full h = simp (lt-leb (at + length vs) (length ws) h)
 
-  pub bytes-at-fit : at + length vs ≤ length ws / 4 → putBytesAt ws at (ok vs) ≡ (ok (at + length vs), sets ws (at * 4) (all_bytes vs))
-  unfolding putBytesAt
-  bytes-at-fit h = simp (le-leb (at + length vs) (length ws / 4) h)
+  pub bytes_at_fit : at + length vs ≤ length ws / 4 → put_bytes_at ws at (ok vs) ≡ (ok (at + length vs), sets ws (at * 4) (all_bytes vs))
+  unfolding put_bytes_at
+  bytes_at_fit h = simp (le-leb (at + length vs) (length ws / 4) h)
 
-  pub bytes-at-full : length ws / 4 < at + length vs → putBytesAt ws at (ok vs) ≡ (no 8, ws)
-  unfolding putBytesAt
-  bytes-at-full h = simp (lt-leb (at + length vs) (length ws / 4) h)
+  pub bytes_at_full : length ws / 4 < at + length vs → put_bytes_at ws at (ok vs) ≡ (no 8, ws)
+  unfolding put_bytes_at
+  bytes_at_full h = simp (lt-leb (at + length vs) (length ws / 4) h)
 
 -- ---- at a place: each thing is said exactly in its event
 
 module _ (at : Place) (x : Said (List ℕ)) where
-  pub based-yes : Aligned at → based at x ≡ x
+  pub based_yes : Aligned at → based at x ≡ x
   unfolding based
-  based-yes a = simp (eq-eqb _ _ a)
+  based_yes a = simp (eq-eqb _ _ a)
 
-  pub based-no : (Aligned at → ⊥) → based at x ≡ no 15
+  pub based_no : (Aligned at → ⊥) → based at x ≡ no 15
   unfolding based
-  based-no h = simp (ne_eqb _ _ h)
+  based_no h = simp (ne_eqb _ _ h)
 
 -- for either writer, of which all that is known is what it says of a refusal and of words
 module _ (room from : ℕ) (spell : List ℕ → List ℕ) (l : List ℕ) (at : Place) (put : Said (List ℕ) → Said ℕ × List ℕ)
     (kept : (n : ℕ) → put (no n) ≡ (no n, l))
-    (roomed : (vs : List ℕ) → put (ok vs) ≡ cond (leb (posOf at + length vs) room) (ok (posOf at + length vs), sets l from (spell vs)) (no 8, l)) where
-  says : (x : Said (List ℕ)) → Says room from spell l at x (atBase at.base (put (based at x)))
+    (roomed : (vs : List ℕ) → put (ok vs) ≡ cond (leb (pos_of at + length vs) room) (ok (pos_of at + length vs), sets l from (spell vs)) (no 8, l)) where
+  says : (x : Said (List ℕ)) → Says room from spell l at x (based_at at.base (put (based at x)))
   unfolding based
   says x = go (eqb (base_of at % 4) 0) refl x
     where
-      fit : (vs : List ℕ) (b : Bool) → Aligned at → leb (posOf at + length vs) room ≡ b
-          → Says room from spell l at (ok vs) (atBase at.base (cond b (ok (posOf at + length vs), sets l from (spell vs)) (no 8, l)))
+      fit : (vs : List ℕ) (b : Bool) → Aligned at → leb (pos_of at + length vs) room ≡ b
+          → Says room from spell l at (ok vs) (based_at at.base (cond b (ok (pos_of at + length vs), sets l from (spell vs)) (no 8, l)))
       fit vs true a t = done vs a refl (leb-true _ _ t)
       fit vs false a t = full vs a refl (leb-false _ _ t)
 
-      go : (b : Bool) → eqb (base_of at % 4) 0 ≡ b → (x : Said (List ℕ)) → Says room from spell l at x (atBase at.base (put (cond b x (no 15))))
+      go : (b : Bool) → eqb (base_of at % 4) 0 ≡ b → (x : Said (List ℕ)) → Says room from spell l at x (based_at at.base (put (cond b x (no 15))))
       go false e x = rw (kept 15) (unaligned (eqb-false _ _ e))
       go true e (no n) = rw (kept n) (refused n (eqb-true _ _ e) refl)
-      go true e (ok vs) = rw (roomed vs) (fit vs (leb (posOf at + length vs) room) (eqb-true _ _ e) refl)
+      go true e (ok vs) = rw (roomed vs) (fit vs (leb (pos_of at + length vs) room) (eqb-true _ _ e) refl)
 
-  answers : (x : Said (List ℕ)) {z : Answer} → Says room from spell l at x z → atBase at.base (put (based at x)) ≡ z
-  answers x (unaligned h) = rw (based-no at x h, kept 15) refl
-  answers x (refused n a e) = rw (based-yes at x a, e, kept n) refl
-  answers x (full vs a e h) = rw (based-yes at x a, e, roomed vs, lt-leb _ _ h) refl
-  answers x (done vs a e h) = rw (based-yes at x a, e, roomed vs, le-leb _ _ h) refl
+  answers : (x : Said (List ℕ)) {z : Answer} → Says room from spell l at x z → based_at at.base (put (based at x)) ≡ z
+  answers x (unaligned h) = rw (based_no at x h, kept 15) refl
+  answers x (refused n a e) = rw (based_yes at x a, e, kept n) refl
+  answers x (full vs a e h) = rw (based_yes at x a, e, roomed vs, lt-leb _ _ h) refl
+  answers x (done vs a e h) = rw (based_yes at x a, e, roomed vs, le-leb _ _ h) refl
 
 module _ (l : List ℕ) (at : Place) (x : Said (List ℕ)) where
-  pub put-says : Puts l at x (put_of l at x)
+  pub put_says : Puts l at x (put_of l at x)
   unfolding put_of put_at
-  put-says = says (length l) (posOf at) (λ vs. vs) l at (put_at l (posOf at)) (λ n. refl) (λ vs. refl) x
+  put_says = says (length l) (pos_of at) (λ vs. vs) l at (put_at l (pos_of at)) (λ n. refl) (λ vs. refl) x
 
-  pub put-answers : {z : Answer} → Puts l at x z → put_of l at x ≡ z
+  pub put_answers : {z : Answer} → Puts l at x z → put_of l at x ≡ z
   unfolding put_of put_at
-  put-answers = answers (length l) (posOf at) (λ vs. vs) l at (put_at l (posOf at)) (λ n. refl) (λ vs. refl) x
+  put_answers = answers (length l) (pos_of at) (λ vs. vs) l at (put_at l (pos_of at)) (λ n. refl) (λ vs. refl) x
 
-  pub bytes-says : PutsBytes l at x (putBytesOf l at x)
-  unfolding putBytesOf putBytesAt
-  bytes-says = says (length l / 4) (posOf at * 4) all_bytes l at (putBytesAt l (posOf at)) (λ n. refl) (λ vs. refl) x
+  pub bytes_says : PutsBytes l at x (put_bytes_of l at x)
+  unfolding put_bytes_of put_bytes_at
+  bytes_says = says (length l / 4) (pos_of at * 4) all_bytes l at (put_bytes_at l (pos_of at)) (λ n. refl) (λ vs. refl) x
 
-  pub bytes-answers : {z : Answer} → PutsBytes l at x z → putBytesOf l at x ≡ z
-  unfolding putBytesOf putBytesAt
-  bytes-answers = answers (length l / 4) (posOf at * 4) all_bytes l at (putBytesAt l (posOf at)) (λ n. refl) (λ vs. refl) x
+  pub bytes_answers : {z : Answer} → PutsBytes l at x z → put_bytes_of l at x ≡ z
+  unfolding put_bytes_of put_bytes_at
+  bytes_answers = answers (length l / 4) (pos_of at * 4) all_bytes l at (put_bytes_at l (pos_of at)) (λ n. refl) (λ vs. refl) x
 
-  pub put-exactly : (z : Answer) → (put_of l at x ≡ z) ↔ Puts l at x z
-  put-exactly z = (λ e. subst (Puts l at x) e put-says, put-answers)
+  pub put_exactly : (z : Answer) → (put_of l at x ≡ z) ↔ Puts l at x z
+  put_exactly z = (λ e. subst (Puts l at x) e put_says, put_answers)
 
-  pub bytes-exactly : (z : Answer) → (putBytesOf l at x ≡ z) ↔ PutsBytes l at x z
-  bytes-exactly z = (λ e. subst (PutsBytes l at x) e bytes-says, bytes-answers)
+  pub bytes_exactly : (z : Answer) → (put_bytes_of l at x ≡ z) ↔ PutsBytes l at x z
+  bytes_exactly z = (λ e. subst (PutsBytes l at x) e bytes_says, bytes_answers)
 
   -- with a multiple of 4 for base, what is said is document 01's, and the base with it
-  pub put-before : Aligned at → put_of l at x ≡ atBase at.base (put_at l (posOf at) x)
+  pub put_before : Aligned at → put_of l at x ≡ based_at at.base (put_at l (pos_of at) x)
   unfolding put_of
-  put-before a = ap (λ (y : Said (List ℕ)). atBase at.base (put_at l (posOf at) y)) (based-yes at x a)
+  put_before a = ap (λ (y : Said (List ℕ)). based_at at.base (put_at l (pos_of at) y)) (based_yes at x a)
 
-  pub bytes-before : Aligned at → putBytesOf l at x ≡ atBase at.base (putBytesAt l (posOf at) x)
-  unfolding putBytesOf
-  bytes-before a = ap (λ (y : Said (List ℕ)). atBase at.base (putBytesAt l (posOf at) y)) (based-yes at x a)
+  pub bytes_before : Aligned at → put_bytes_of l at x ≡ based_at at.base (put_bytes_at l (pos_of at) x)
+  unfolding put_bytes_of
+  bytes_before a = ap (λ (y : Said (List ℕ)). based_at at.base (put_bytes_at l (pos_of at) y)) (based_yes at x a)
 
   -- whatever is asked for, a base that is no multiple of 4 is all that is said
-  pub put-15 : (Aligned at → ⊥) → put_of l at x ≡ (no 15, l)
-  put-15 h = put-answers (unaligned h)
+  pub put_15 : (Aligned at → ⊥) → put_of l at x ≡ (no 15, l)
+  put_15 h = put_answers (unaligned h)
 
-  pub bytes-15 : (Aligned at → ⊥) → putBytesOf l at x ≡ (no 15, l)
-  bytes-15 h = bytes-answers (unaligned h)
+  pub bytes_15 : (Aligned at → ⊥) → put_bytes_of l at x ≡ (no 15, l)
+  bytes_15 h = bytes_answers (unaligned h)
 
 -- what is refused is not written
 module _ (l : List ℕ) (at : Place) (n : ℕ) where
@@ -118,13 +118,13 @@ module _ (l : List ℕ) (at : Place) (n : ℕ) where
   not_done (unaligned h) = (15, refl)
   not_done (refused m a e) = (m, refl)
   not_done (full vs a e h) = (8, refl)
-  not_done (done vs a e h) = absurd (not-both (sym e))
+  not_done (done vs a e h) = absurd (not_both (sym e))
 
-  pub put-no : (m : ℕ) × ((put_of l at (no n)).0 ≡ no m)
-  put-no = not_done (put-says l at (no n))
+  pub put_no : (m : ℕ) × ((put_of l at (no n)).0 ≡ no m)
+  put_no = not_done (put_says l at (no n))
 
-  pub bytes-no : (m : ℕ) × ((putBytesOf l at (no n)).0 ≡ no m)
-  bytes-no = not_done (bytes-says l at (no n))
+  pub bytes_no : (m : ℕ) × ((put_bytes_of l at (no n)).0 ≡ no m)
+  bytes_no = not_done (bytes_says l at (no n))
 
 -- ---- what a writer said, and what then stands in the run
 
@@ -136,7 +136,7 @@ module _ (room from : ℕ) (spell : List ℕ → List ℕ) (l : List ℕ) (at : 
     pub base : Aligned at
     pub past : p ≡ on at (length vs)
     pub holds : l' ≡ sets l from (spell vs)
-    pub fits : posOf at + length vs ≤ room
+    pub fits : pos_of at + length vs ≤ room
 
   gave : (p : Place) (l' : List ℕ) → Says room from spell l at x (ok p, l') → Put p l'
   gave p l' (done vs a e h) = record { vs = vs; asked = e; base = a; past = refl; holds = refl; fits = h }
@@ -147,18 +147,18 @@ module _ (room from : ℕ) (spell : List ℕ → List ℕ) (l : List ℕ) (at : 
   left n l' (full vs a e h) = refl
 
 module _ (l : List ℕ) (at : Place) (x : Said (List ℕ)) (l' : List ℕ) where
-  pub put-done : (p : Place) → ◌≡◌ {A = Answer} (ok p, l') (put_of l at x) → Put (length l) (posOf at) (λ vs. vs) l at x p l'
-  put-done p e = gave (length l) (posOf at) (λ vs. vs) l at x p l' ((put-exactly l at x (ok p, l')).0 (sym e))
+  pub put-done : (p : Place) → ◌≡◌ {A = Answer} (ok p, l') (put_of l at x) → Put (length l) (pos_of at) (λ vs. vs) l at x p l'
+  put-done p e = gave (length l) (pos_of at) (λ vs. vs) l at x p l' ((put_exactly l at x (ok p, l')).0 (sym e))
 
-  pub bytes-done : (p : Place) → ◌≡◌ {A = Answer} (ok p, l') (putBytesOf l at x) → Put (length l / 4) (posOf at * 4) all_bytes l at x p l'
-  bytes-done p e = gave (length l / 4) (posOf at * 4) all_bytes l at x p l' ((bytes-exactly l at x (ok p, l')).0 (sym e))
+  pub bytes_done : (p : Place) → ◌≡◌ {A = Answer} (ok p, l') (put_bytes_of l at x) → Put (length l / 4) (pos_of at * 4) all_bytes l at x p l'
+  bytes_done p e = gave (length l / 4) (pos_of at * 4) all_bytes l at x p l' ((bytes_exactly l at x (ok p, l')).0 (sym e))
 
   -- "A refusal .. changes no word and no position"
   pub put_refused : (n : ℕ) → ◌≡◌ {A = Answer} (no n, l') (put_of l at x) → l' ≡ l
-  put_refused n e = left (length l) (posOf at) (λ vs. vs) l at x n l' ((put-exactly l at x (no n, l')).0 (sym e))
+  put_refused n e = left (length l) (pos_of at) (λ vs. vs) l at x n l' ((put_exactly l at x (no n, l')).0 (sym e))
 
-  pub bytes-refused : (n : ℕ) → ◌≡◌ {A = Answer} (no n, l') (putBytesOf l at x) → l' ≡ l
-  bytes-refused n e = left (length l / 4) (posOf at * 4) all_bytes l at x n l' ((bytes-exactly l at x (no n, l')).0 (sym e))
+  pub bytes_refused : (n : ℕ) → ◌≡◌ {A = Answer} (no n, l') (put_bytes_of l at x) → l' ≡ l
+  bytes_refused n e = left (length l / 4) (pos_of at * 4) all_bytes l at x n l' ((bytes_exactly l at x (no n, l')).0 (sym e))
 
 -- ---- stores, read back
 
@@ -175,9 +175,9 @@ outside (v ∷ vs) l i k h =
     outside vs (set l i v) (suc i) k (⊎_elim (λ (a : k < i). inl (omega arith)) (λ (b : i + suc (length vs) ≤ k). inr (omega arith)) h)
     ∙ get_or-set_other l i k v 0 (λ e. ⊎_elim (λ (a : k < i). omega arith) (λ (b : i + suc (length vs) ≤ k). omega arith) h)
 
-length-bytes : (vs : List ℕ) → length (all_bytes vs) ≡ length vs * 4
-length-bytes [] = refl
-length-bytes (v ∷ vs) = omega (arith, length-bytes vs)
+length_bytes : (vs : List ℕ) → length (all_bytes vs) ≡ length vs * 4
+length_bytes [] = refl
+length_bytes (v ∷ vs) = omega (arith, length_bytes vs)
 
 -- bytes that spell words are taken as these words
 pub words_back : (vs : List ℕ) → words_in (all_bytes vs) ≡ vs
@@ -189,26 +189,26 @@ words_back (v ∷ vs) =
 -- from the old position to the new one stand the words that were asked for, and every other word is as before
 module _ (l : List ℕ) (at : Place) (x : Said (List ℕ)) (p : Place) (l' : List ℕ) where
   module _ (e : ◌≡◌ {A = Answer} (ok p, l') (put_of l at x)) where
-    pub written : x ≡ ok (slice (posOf at) (posOf p) l')
+    pub written : x ≡ ok (slice (pos_of at) (pos_of p) l')
     written =
         let d = put-done l at x l' p e in
-        d.asked ∙ ap ok (sym (ap (λ (q : Place). slice (posOf at) (posOf q) l') d.past ∙ ap (slice (posOf at) (posOf at + length d.vs)) d.holds ∙ stored l d.vs (posOf at) d.fits))
+        d.asked ∙ ap ok (sym (ap (λ (q : Place). slice (pos_of at) (pos_of q) l') d.past ∙ ap (slice (pos_of at) (pos_of at + length d.vs)) d.holds ∙ stored l d.vs (pos_of at) d.fits))
 
-    pub others : (k : ℕ) → (k < posOf at) ⊎ (posOf p ≤ k) → get_or l' k 0 ≡ get_or l k 0
-    others k h = let d = put-done l at x l' p e in rw d.holds (outside d.vs l (posOf at) k (rw d.past at h))
+    pub others : (k : ℕ) → (k < pos_of at) ⊎ (pos_of p ≤ k) → get_or l' k 0 ≡ get_or l k 0
+    others k h = let d = put-done l at x l' p e in rw d.holds (outside d.vs l (pos_of at) k (rw d.past at h))
 
-  module _ (e : ◌≡◌ {A = Answer} (ok p, l') (putBytesOf l at x)) where
-    abbrev d : Put (length l / 4) (posOf at * 4) all_bytes l at x p l'
-    d = bytes-done l at x l' p e
+  module _ (e : ◌≡◌ {A = Answer} (ok p, l') (put_bytes_of l at x)) where
+    abbrev d : Put (length l / 4) (pos_of at * 4) all_bytes l at x p l'
+    d = bytes_done l at x l' p e
 
-    end : posOf p * 4 ≡ posOf at * 4 + length (all_bytes d.vs)
-    end = ap (λ (q : Place). posOf q * 4) d.past ∙ omega (arith, length-bytes d.vs)
+    end : pos_of p * 4 ≡ pos_of at * 4 + length (all_bytes d.vs)
+    end = ap (λ (q : Place). pos_of q * 4) d.past ∙ omega (arith, length_bytes d.vs)
 
-    pub bytes-written : slice (posOf at * 4) (posOf p * 4) l' ≡ all_bytes d.vs
-    bytes-written =
-        ap (λ (k : ℕ). slice (posOf at * 4) k l') end
-        ∙ ap (slice (posOf at * 4) (posOf at * 4 + length (all_bytes d.vs))) d.holds
-        ∙ stored l (all_bytes d.vs) (posOf at * 4) (omega (arith, d.fits, length-bytes d.vs))
+    pub bytes_written : slice (pos_of at * 4) (pos_of p * 4) l' ≡ all_bytes d.vs
+    bytes_written =
+        ap (λ (k : ℕ). slice (pos_of at * 4) k l') end
+        ∙ ap (slice (pos_of at * 4) (pos_of at * 4 + length (all_bytes d.vs))) d.holds
+        ∙ stored l (all_bytes d.vs) (pos_of at * 4) (omega (arith, d.fits, length_bytes d.vs))
 
-    pub bytes-others : (k : ℕ) → (k < posOf at * 4) ⊎ (posOf p * 4 ≤ k) → get_or l' k 0 ≡ get_or l k 0
-    bytes-others k h = rw d.holds (outside (all_bytes d.vs) l (posOf at * 4) k (rw end at h))
+    pub bytes_others : (k : ℕ) → (k < pos_of at * 4) ⊎ (pos_of p * 4 ≤ k) → get_or l' k 0 ≡ get_or l k 0
+    bytes_others k h = rw d.holds (outside (all_bytes d.vs) l (pos_of at * 4) k (rw end at h))

@@ -2,7 +2,7 @@
 use Rattle.std.specs.Prelude.{cond, List, [], ◌∷◌, ◌++◌, ℕ, ◌+◌, ◌*◌, ◌/◌, ◌%◌, eqb, leb, length}
 use Rattle.std.proofs.lemmas.List.Edits.{sets}
 use Rattle.words.specs.Said.{Said, ok, no}
-use Rattle.words.specs.Place.{base_of, posOf}
+use Rattle.words.specs.Place.{base_of, pos_of}
 use Rattle.words.specs.declared.Address.{Address}
 use Rattle.words.specs.declared.Place.{Place}
 
@@ -30,9 +30,9 @@ words_in (a ∷ []) = []
 words_in [] = []
 
 -- the same in a run of bytes, the position counting words; "a tail under four is no room"
-unfoldable pub putBytesAt : List ℕ → ℕ → Said (List ℕ) → Said ℕ × List ℕ
-putBytesAt bs at (ok vs) = cond (leb (at + length vs) (length bs / 4)) (ok (at + length vs), sets bs (at * 4) (all_bytes vs)) (no 8, bs)
-putBytesAt bs at (no n) = (no n, bs)
+unfoldable pub put_bytes_at : List ℕ → ℕ → Said (List ℕ) → Said ℕ × List ℕ
+put_bytes_at bs at (ok vs) = cond (leb (at + length vs) (length bs / 4)) (ok (at + length vs), sets bs (at * 4) (all_bytes vs)) (no 8, bs)
+put_bytes_at bs at (no n) = (no n, bs)
 
 -- ---- document 02, g: at a place
 
@@ -41,12 +41,12 @@ unfoldable pub based : Place → Said (List ℕ) → Said (List ℕ)
 based at x = cond (eqb (base_of at % 4) 0) x (no 15)
 
 -- the position that is said, and the base that was given with it
-abbrev pub atBase : Address → Said ℕ × List ℕ → Said Place × List ℕ
-atBase b (ok p, ws) = (ok (record { base = b; position = record { 0 = p } }), ws)
-atBase b (no n, ws) = (no n, ws)
+abbrev pub based_at : Address → Said ℕ × List ℕ → Said Place × List ℕ
+based_at b (ok p, ws) = (ok (record { base = b; position = record { 0 = p } }), ws)
+based_at b (no n, ws) = (no n, ws)
 
 unfoldable pub put_of : List ℕ → Place → Said (List ℕ) → Said Place × List ℕ
-put_of ws at x = atBase at.base (put_at ws (posOf at) (based at x))
+put_of ws at x = based_at at.base (put_at ws (pos_of at) (based at x))
 
-unfoldable pub putBytesOf : List ℕ → Place → Said (List ℕ) → Said Place × List ℕ
-putBytesOf bs at x = atBase at.base (putBytesAt bs (posOf at) (based at x))
+unfoldable pub put_bytes_of : List ℕ → Place → Said (List ℕ) → Said Place × List ℕ
+put_bytes_of bs at x = based_at at.base (put_bytes_at bs (pos_of at) (based at x))

@@ -1,12 +1,14 @@
 // The two writers of up to four words, one for a run of words and one for a run of bytes. Every entry that writes hands them its words or its
 // refusal; they alone test the base address, before anything else, and the room.
+#![tactic(auto)]
+
 ghost use Rattle.std.specs.Prelude.{◌≡◌, ◌+◌, ◌-◌, ◌*◌, ◌^◌, ◌≤◌, ◌<◌, min, leb, length, set};
 ghost use Rattle.std.proofs.lemmas.List.Edits.{sets};
 ghost use Rattle.words.specs.Said.{Said};
 ghost use Rattle.words.specs.Answer.{said, made};
 ghost use Rattle.words.specs.Listed.{list_of, listed};
 ghost use Rattle.words.specs.Place.{on};
-ghost use Rattle.writers.specs.Put.{bytes_of, all_bytes, put_at, putBytesAt, atBase, based, put_of, putBytesOf};
+ghost use Rattle.writers.specs.Put.{bytes_of, all_bytes, put_at, put_bytes_at, based_at, based, put_of, put_bytes_of};
 
 use words::{Place, Refusal, WordPos, Worded, Words, Written};
 
@@ -75,7 +77,7 @@ fn store_all(words: &mut [u32], i: usize, n: usize, f: Words)
 }
 
 fn put_words(words: &mut [u32], at: Place, f: Words) -> Written
-    ensures { (said result, words.new) ≡ atBase at.base (put_at words.old at.position.0 (Said.ok (list_of f))) }
+    ensures { (said result, words.new) ≡ based_at at.base (put_at words.old at.position.0 (Said.ok (list_of f))) }
 {
     let n = words::least(f.count, 4);
     if fits(words.len(), at.position.0, n) {
@@ -129,7 +131,7 @@ fn store_all_bytes(bytes: &mut [u8], i: usize, n: usize, f: Words)
 }
 
 fn put_words_bytes(bytes: &mut [u8], at: Place, f: Words) -> Written
-    ensures { (said result, bytes.new) ≡ atBase at.base (putBytesAt bytes.old at.position.0 (Said.ok (list_of f))) }
+    ensures { (said result, bytes.new) ≡ based_at at.base (put_bytes_at bytes.old at.position.0 (Said.ok (list_of f))) }
 {
     let n = words::least(f.count, 4);
     if fits(bytes.len() / 4, at.position.0, n) {
@@ -141,7 +143,7 @@ fn put_words_bytes(bytes: &mut [u8], at: Place, f: Words) -> Written
 
 // The same in a run of bytes: a word is four bytes, low byte first, the position counts words, and a tail under four bytes is no room.
 pub fn put_bytes(bytes: &mut [u8], at: Place, m: Worded) -> Written
-    ensures { (said result, bytes.new) ≡ putBytesOf bytes.old at (listed (made m)) }
+    ensures { (said result, bytes.new) ≡ put_bytes_of bytes.old at (listed (made m)) }
 {
     match based(at, m) {
         Worded::Made(f) => put_words_bytes(bytes, at, f),

@@ -2,16 +2,16 @@
 use mathlib.Core.Path.{sym}
 use native.Mathlib.Omega.{arith}
 use Rattle.lines.proofs.Parts.{only, then}
-use Rattle.archive_lines.proofs.Lines.{line-full, line-is}
+use Rattle.archive_lines.proofs.Lines.{line_full, line-is}
 use borrow.Author.Rules.{rules}
 use Rattle.archive_lines.proofs.line.Statement.{statement}
 use Rattle.archive_lines.proofs.line.Tie as tie
 
 returns : tie.Need-returns
-returns c = sym (line-full _ _ _ (omega arith))
+returns c = sym (line_full _ _ _ (omega arith))
 
 returns-2 : tie.Need-returns-2
-returns-2 c = sym (line-full _ _ _ (omega arith))
+returns-2 c = sym (line_full _ _ _ (omega arith))
 
 returns-3 : tie.Need-returns-3
 returns-3 c =
@@ -21,5 +21,5 @@ returns-3 c =
     let a = start.args in
     line-is _ _ a.t (omega arith) (then _ _ _ told.put-told.ensures (only _ _ _ end.text.ensures))
 
-pub line-spec : {M : Type 1} → statement M
-line-spec = tie.close (tie.spec returns returns-2 (search rules) (search rules) (search rules) (search rules) returns-3)
+pub line_spec : {M : Type 1} → statement M
+line_spec = tie.close (tie.spec returns returns-2 (search rules) (search rules) (search rules) (search rules) returns-3)

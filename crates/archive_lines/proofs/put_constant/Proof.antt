@@ -28,8 +28,8 @@ returns-2 c =
     rw (← size.before.type_size.ensures, ← c.before.before.fewest.ensures, le-ltb _ _ c.if1.false)
     (then _ _ _ register.put-field.ensures (then _ _ _ size.put-field2.ensures (then _ _ _ value.put-value.ensures count.put-field3.ensures)))
 
-pub put-constant-spec : {M : Type 1} → statement M
-put-constant-spec =
+pub put_constant_spec : {M : Type 1} → statement M
+put_constant_spec =
     tie.close
     (tie.spec
     (search rules)

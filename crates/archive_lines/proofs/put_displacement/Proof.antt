@@ -34,8 +34,8 @@ returns-2 c =
     rw (← bits, le-ltb _ _ test.if1.false, ← e)
     (then _ _ _ format.put-field.ensures (before _ _ _ name.text.ensures _ (before _ _ _ base.word.ensures _ distance.put-field3.ensures)))
 
-pub put-displacement-spec : {M : Type 1} → statement M
-put-displacement-spec =
+pub put_displacement_spec : {M : Type 1} → statement M
+put_displacement_spec =
     tie.close
     (tie.spec
     (search rules)

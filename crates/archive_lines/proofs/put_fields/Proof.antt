@@ -26,8 +26,8 @@ returns-2 c =
 same-length-2 : tie.Need-same-length-2
 same-length-2 c = kept _ _ _ (returns-2 c)
 
-pub put-fields-spec : {M : Type 1} → statement M
-put-fields-spec =
+pub put_fields_spec : {M : Type 1} → statement M
+put_fields_spec =
     tie.close
     (tie.spec
     (search rules)

@@ -20,8 +20,8 @@ returns-4 c =
     let it = name.before.before.before.before in
     rw it.i4.given.1 (before _ _ _ name.text.ensures _ (only _ _ _ word.word.ensures))
 
-pub put-item-spec : {M : Type 1} → statement M
-put-item-spec =
+pub put_item_spec : {M : Type 1} → statement M
+put_item_spec =
     tie.close
     (tie.spec
     (search rules)

@@ -19,8 +19,8 @@ returns c =
 same_length : tie.Need-same-length
 same_length c = kept _ _ _ (returns c)
 
-pub put-logical-spec : {M : Type 1} → statement M
-put-logical-spec =
+pub put_logical_spec : {M : Type 1} → statement M
+put_logical_spec =
     tie.close
     (tie.spec
     (search rules)

@@ -15,8 +15,8 @@ returns c =
     (then _ _ _ register.put-field.ensures
     (then _ _ _ size.put-field2.ensures (before _ _ _ name.text.ensures _ (before _ _ _ half.word.ensures _ place.put-field3.ensures))))
 
-pub put-movk-spec : {M : Type 1} → statement M
-put-movk-spec =
+pub put_movk_spec : {M : Type 1} → statement M
+put_movk_spec =
     tie.close
     (tie.spec
     (search rules)

@@ -23,8 +23,8 @@ returns-4 c =
     let test = c.before.before.before.before.before in
     rw (ne_eqb _ _ test.before.before.if1.false, ne_eqb _ _ test.before.if2.false, ne_eqb _ _ test.if3.false) (only _ _ _ c.before.before.text4.ensures)
 
-pub put-operation-spec : {M : Type 1} → statement M
-put-operation-spec =
+pub put_operation_spec : {M : Type 1} → statement M
+put_operation_spec =
     tie.close
     (tie.spec
     (search rules)

@@ -18,8 +18,8 @@ returns-2 c =
     let it = position.before.before.before in
     rw it.t2.given.1 (before _ _ _ position.number2.ensures _ item.put_item.ensures)
 
-pub put-told-spec : {M : Type 1} → statement M
-put-told-spec =
+pub put_told_spec : {M : Type 1} → statement M
+put_told_spec =
     tie.close
     (tie.spec
     (search rules)

@@ -11,5 +11,5 @@ returns c =
     let name = high.before.before.before.before in
     before _ _ _ name.text.ensures _ (before _ _ _ high.word.ensures _ (only _ _ _ low.word2.ensures))
 
-pub put-value-spec : {M : Type 1} → statement M
-put-value-spec = tie.close (tie.spec (search rules) (search rules) (search rules) (search rules) (search rules) (search rules) (search rules) returns)
+pub put_value_spec : {M : Type 1} → statement M
+put_value_spec = tie.close (tie.spec (search rules) (search rules) (search rules) (search rules) (search rules) (search rules) (search rules) returns)

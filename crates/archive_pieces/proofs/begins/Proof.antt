@@ -15,8 +15,8 @@ returns-3 c = rw (← c.before.before.read_at.ensures, c.enum_told.given.1)
 returns-4 : tie.Need-returns-4
 returns-4 c = rw (← c.before.before.read_at.ensures, c.enum-told2.given.1)
 
-pub begins-spec : {M : Type 1} → statement M
-begins-spec =
+pub begins_spec : {M : Type 1} → statement M
+begins_spec =
     tie.close
     (tie.spec
     (search rules)

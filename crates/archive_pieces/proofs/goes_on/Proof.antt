@@ -15,8 +15,8 @@ returns-3 c = rw (← c.before.before.resume.ensures, c.enum-told2.given.1)
 returns-4 : tie.Need-returns-4
 returns-4 c = rw (← c.before.before.resume.ensures, c.enum-told3.given.1)
 
-pub goes-on-spec : {M : Type 1} → statement M
-goes-on-spec =
+pub goes_on_spec : {M : Type 1} → statement M
+goes_on_spec =
     tie.close
     (tie.spec
     (search rules)

@@ -3,7 +3,7 @@ use Rattle.std.proofs.Common.{◌≡◌, ℕ, List, length, take, sym, ap, ◌�
 use lib.Seq.{take-length}
 use Rattle.arm.proofs.Tests.{never}
 use Rattle.archives.specs.Printed.{words_of}
-use Rattle.archives.proofs.Gathered.{in-run}
+use Rattle.archives.proofs.Gathered.{in_run}
 use Rattle.archives.proofs.block.Statement.{statement}
 use Rattle.archives.proofs.block.Tie as tie
 
@@ -19,13 +19,13 @@ slice-reshare-prefix-pass : tie.Need-slice-reshare-prefix-pass
 slice-reshare-prefix-pass c =
     let g = c.before.before.gather in
     let read = c.before.before.before.before.before.before.before.fill in
-    in-run _ (take read.result.count read.new.0) _ g.ensures.0 g.ensures.1
+    in_run _ (take read.result.count read.new.0) _ g.ensures.0 g.ensures.1
 
 slice-aggregate-pass : tie.Need-slice-aggregate-pass
 slice-aggregate-pass c =
     let g = c.before.before.before.gather in
     let read = c.before.before.before.before.before.before.before.before.fill in
-    simp length-take (omega (arith, in-run g.new.1.0 (take read.result.count read.new.0) g.result g.ensures.0 g.ensures.1))
+    simp length-take (omega (arith, in_run g.new.1.0 (take read.result.count read.new.0) g.result g.ensures.0 g.ensures.1))
 
 returns : tie.Need-returns
 returns c = λ e. never (sym c.if1.true ∙ e)

@@ -60,8 +60,8 @@ returns c =
     let n : h.n ≡ length a.bytes.now / 4 = omega arith in
     (n, ap (take h.n) h.invariant.3 ∙ all_words a.words.now a.bytes.now h.n n (omega arith))
 
-pub gather-spec : {M : Type 1} → statement M
-gather-spec =
+pub gather_spec : {M : Type 1} → statement M
+gather_spec =
     tie.close
     (tie.spec
     invariant-loop

@@ -9,8 +9,8 @@ slice-aggregate-written c = simp length-take (omega arith)
 slice-aggregate-written-2 : tie.Need-slice-aggregate-written-2
 slice-aggregate-written-2 c = simp length-take (omega arith)
 
-pub last-spec : {M : Type 1} → statement M
-last-spec =
+pub last_spec : {M : Type 1} → statement M
+last_spec =
     tie.close
     (tie.spec
     (search rules)

@@ -3,7 +3,7 @@ use Rattle.std.proofs.Common.{◌≡◌, ◌+◌, ◌-◌, ◌*◌, ◌≤◌, l
 use borrow.Author.Tests.{not-true, not-false}
 use Rattle.arm.proofs.Tests.{never}
 use Rattle.archive_pieces.proofs.Forward.{held}
-use Rattle.archives.proofs.Again.{steps-within, going, Sofar, nothing_yet, all-passed, gone-on, gone-less}
+use Rattle.archives.proofs.Again.{steps_within, going, Sofar, nothing_yet, all_passed, gone_on_lem, gone_less}
 use Rattle.archives.proofs.pass.Statement.{statement}
 use Rattle.archives.proofs.pass.Tie as tie
 
@@ -17,13 +17,13 @@ loop-holds : tie.Need-loop-init invariant-loop decreases-loop
 loop-holds c = (c.before.before.requires, refl, nothing_yet _ _ _)
 
 mul-print : tie.Need-overflow-mul-print invariant-loop decreases-loop
-mul-print c = let h = steps-within c.before.loop.invariant.2.steps in search rules
+mul-print c = let h = steps_within c.before.loop.invariant.2.steps in search rules
 
 sub-print : tie.Need-overflow-sub-print invariant-loop decreases-loop
-sub-print c = steps-within c.before.loop.invariant.2.steps
+sub-print c = steps_within c.before.loop.invariant.2.steps
 
 part-print-start : tie.Need-slice-bounds-print-start invariant-loop decreases-loop
-part-print-start c = steps-within c.before.loop.invariant.2.steps
+part-print-start c = steps_within c.before.loop.invariant.2.steps
 
 part-print-end : tie.Need-slice-bounds-print-end invariant-loop decreases-loop
 part-print-end c = omega arith
@@ -35,8 +35,8 @@ add-i : tie.Need-overflow-add-i invariant-loop decreases-loop
 add-i c =
     let printed = c.before.before.before in
     let test = printed.before.before.before in
-    let s = gone-on test.before.loop.invariant.2 (not-true _ test.loop-test.true) printed.print.ensures.0 in
-    omega (arith, steps-within s.steps)
+    let s = gone_on_lem test.before.loop.invariant.2 (not-true _ test.loop-test.true) printed.print.ensures.0 in
+    omega (arith, steps_within s.steps)
 
 slice-reshare-prefix-written : tie.Need-slice-reshare-prefix-written invariant-loop decreases-loop
 slice-reshare-prefix-written c =
@@ -64,7 +64,7 @@ loop-less c =
     let printed = c.before.before.before.before.before.before in
     let test = printed.before.before.before in
     let h = test.before.loop.invariant in
-    gone-less h.2 (not-true _ test.loop-test.true) printed.print.ensures.0 printed.print.ensures.1 h.0
+    gone_less h.2 (not-true _ test.loop-test.true) printed.print.ensures.0 printed.print.ensures.1 h.0
 
 loop-again : tie.Need-loop-preserved invariant-loop decreases-loop
 loop-again c =
@@ -72,13 +72,13 @@ loop-again c =
     let test = printed.before.before.before in
     let h = test.before.loop.invariant in
     let u = printed.print.ensures.0 in
-    (omega (arith, u.same, h.0), u.same ∙ h.1, gone-on h.2 (not-true _ test.loop-test.true) u)
+    (omega (arith, u.same, h.0), u.same ∙ h.1, gone_on_lem h.2 (not-true _ test.loop-test.true) u)
 
 same-length-2 : tie.Need-same-length-2 invariant-loop decreases-loop
 same-length-2 c = c.before.loop.invariant.1
 
 returns-2 : tie.Need-returns-2 invariant-loop decreases-loop
-returns-2 c = λ e. all-passed c.before.loop.invariant.2 (not-false _ c.loop-test.false)
+returns-2 c = λ e. all_passed c.before.loop.invariant.2 (not-false _ c.loop-test.false)
 
 pub pass_spec : {M : Type 1} → statement M
 pass_spec =

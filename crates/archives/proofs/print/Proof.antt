@@ -3,7 +3,7 @@ use Rattle.std.proofs.Common.{◌+◌, ◌-◌, ◌*◌, false, length, arith, r
 use Rattle.arm.proofs.Tests.{never}
 use Rattle.archive_pieces.proofs.Forward.{held}
 use Rattle.archives.specs.Printed.{Upto}
-use Rattle.archives.proofs.Again.{begun, again, ended, taken, fewer, steps-within}
+use Rattle.archives.proofs.Again.{begun, again, ended, taken, fewer, steps_within}
 use Rattle.archives.proofs.print.Statement.{statement}
 use Rattle.archives.proofs.print.Tie as tie
 
@@ -20,13 +20,13 @@ sub-loop : tie.Need-overflow-sub-loop invariant-loop decreases-loop
 sub-loop c = omega (arith, c.loop.invariant.room, c.loop.invariant.same)
 
 mul-read-on : tie.Need-overflow-mul-read-on invariant-loop decreases-loop
-mul-read-on c = let h = steps-within c.before.loop.invariant.steps in search rules
+mul-read-on c = let h = steps_within c.before.loop.invariant.steps in search rules
 
 sub-read-on : tie.Need-overflow-sub-read-on invariant-loop decreases-loop
-sub-read-on c = steps-within c.before.loop.invariant.steps
+sub-read-on c = steps_within c.before.loop.invariant.steps
 
 part-read-on-start : tie.Need-slice-bounds-read-on-start invariant-loop decreases-loop
-part-read-on-start c = steps-within c.before.loop.invariant.steps
+part-read-on-start c = steps_within c.before.loop.invariant.steps
 
 part-read-on-end : tie.Need-slice-bounds-read-on-end invariant-loop decreases-loop
 part-read-on-end c = omega arith
@@ -44,7 +44,7 @@ add-i : tie.Need-overflow-add-i invariant-loop decreases-loop
 add-i c =
     let found = c.before.before.before.before.before.before.before in
     let loop = found.before.before.before.loop in
-    omega (arith, taken loop.invariant.steps found.read-on.ensures c.before.before.before.before.before.t.given.1)
+    omega (arith, taken loop.invariant.steps found.read_on_lem.ensures c.before.before.before.before.before.t.given.1)
 
 wrapping-add-u64-requires : tie.Need-wrapping-add-u64-requires invariant-loop decreases-loop
 wrapping-add-u64-requires c κs = tt
@@ -54,7 +54,7 @@ loop-less c =
     let item = c.before.before.before.before.before.before in
     let found = item.before.before in
     let loop = found.before.before.before.loop in
-    fewer loop.invariant.steps found.read-on.ensures item.t.given.1
+    fewer loop.invariant.steps found.read_on_lem.ensures item.t.given.1
 
 loop-again : tie.Need-loop-preserved invariant-loop decreases-loop
 loop-again c =
@@ -63,13 +63,13 @@ loop-again c =
     let found = item.before.before in
     let test = found.before.before in
     let loop = test.before.loop in
-    again _ _ _ _ loop.invariant (omega (arith, test.loop-test.true, loop.invariant.room, loop.invariant.same)) found.read-on.ensures item.t.given.1 line.line.ensures c.wrapping-add-u64.ensures
+    again _ _ _ _ loop.invariant (omega (arith, test.loop-test.true, loop.invariant.room, loop.invariant.same)) found.read_on_lem.ensures item.t.given.1 line.line.ensures c.wrapping-add-u64.ensures
 
 enum-known-k : tie.Need-enum-known-k invariant-loop decreases-loop
 enum-known-k c = c.match.keys2
 
 sub-left : tie.Need-overflow-sub-left invariant-loop decreases-loop
-sub-left c = steps-within c.before.before.before.before.before.before.loop.invariant.steps
+sub-left c = steps_within c.before.before.before.before.before.before.loop.invariant.steps
 
 wrapping-add-u64-requires-2 : tie.Need-wrapping-add-u64-requires-2 invariant-loop decreases-loop
 wrapping-add-u64-requires-2 c κs = tt
@@ -81,7 +81,7 @@ returns : tie.Need-returns invariant-loop decreases-loop
 returns c =
     let item = c.before.before in
     let found = item.before.before in
-    (ended _ _ _ _ found.before.before.before.loop.invariant found.read-on.ensures item.k.given.1 c.wrapping-add-u642.ensures, λ e. never e)
+    (ended _ _ _ _ found.before.before.before.loop.invariant found.read_on_lem.ensures item.k.given.1 c.wrapping-add-u642.ensures, λ e. never e)
 
 same-length-2 : tie.Need-same-length-2 invariant-loop decreases-loop
 same-length-2 c = c.before.loop.invariant.same
@@ -91,8 +91,8 @@ returns-2 c =
     let u = c.before.loop.invariant in
     (u, λ e. omega (arith, c.loop-test.false, u.same))
 
-pub print-spec : {M : Type 1} → statement M
-print-spec =
+pub print_spec : {M : Type 1} → statement M
+print_spec =
     tie.close
     (tie.spec
     invariant-loop

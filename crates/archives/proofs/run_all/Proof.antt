@@ -9,8 +9,8 @@ invariant-loop buf₀ words₀ out₀ next₀ turns₀ buf words out next turns 
 abbrev decreases-loop : tie.decreases-loop
 decreases-loop buf₀ words₀ out₀ next₀ turns₀ buf words out next turns = turns
 
-pub run-all-spec : {M : Type 1} → statement M
-run-all-spec =
+pub run_all_spec : {M : Type 1} → statement M
+run_all_spec =
     tie.close
     (tie.spec
     invariant-loop

@@ -1,6 +1,6 @@
 -- `batches::block` meets its contract. Assumes nothing.
 use Rattle.std.proofs.Common.{◌≡◌, ℕ, ◌/◌, List, length, take, sym, ap, ◌∙◌, arith, length-take, rules}
-use Rattle.records.specs.Inputs.{offsetAt}
+use Rattle.records.specs.Inputs.{offset_after}
 use Rattle.arm.proofs.Tests.{never}
 use Rattle.batches.proofs.block.Statement.{statement}
 use Rattle.batches.proofs.block.Tie as tie
@@ -24,7 +24,7 @@ returns-4 c =
     let read = at.before.before.before.before.before in
     let buf : List ℕ = read.fill.new.0 in
     let all : length (take read.fill.result.count buf) ≡ length buf = simp length-take (omega (arith, c.if2.false, read.fill.ensures)) in
-    λ e. at.pass.ensures e ∙ ap (λ (n : ℕ). offsetAt read.before.before.before.before.args.offset (n / 12)) all
+    λ e. at.pass.ensures e ∙ ap (λ (n : ℕ). offset_after read.before.before.before.before.args.offset (n / 12)) all
 
 pub block_spec : {M : Type 1} → statement M
 block_spec =

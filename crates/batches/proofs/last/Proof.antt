@@ -6,8 +6,8 @@ use Rattle.batches.proofs.last.Tie as tie
 slice-aggregate-written : tie.Need-slice-aggregate-written
 slice-aggregate-written c = simp length-take (omega arith)
 
-pub last-spec : {M : Type 1} → statement M
-last-spec =
+pub last_spec : {M : Type 1} → statement M
+last_spec =
     tie.close
     (tie.spec
     (search rules)

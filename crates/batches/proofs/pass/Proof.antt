@@ -1,7 +1,7 @@
 -- `batches::pass` meets its contract. Assumes nothing.
 use Rattle.std.proofs.Common.{◌≡◌, ◌-◌, ◌≤◌, length, refl, ◌∙◌, arith, length-drop, length-take}
 use Rattle.arm.proofs.Tests.{never}
-use Rattle.batches.proofs.Again.{Reached, started, reached, all-reached, progress}
+use Rattle.batches.proofs.Again.{Reached, started, reached, all_reached, progress}
 use Rattle.batches.proofs.pass.Statement.{statement}
 use Rattle.batches.proofs.pass.Tie as tie
 
@@ -85,7 +85,7 @@ same-length-3 : tie.Need-same-length-3 invariant-loop decreases-loop
 same-length-3 c = c.before.loop.invariant.1
 
 returns-3 : tie.Need-returns-3 invariant-loop decreases-loop
-returns-3 c = λ e. all-reached c.before.loop.invariant.2 c.loop-test.false
+returns-3 c = λ e. all_reached c.before.loop.invariant.2 c.loop-test.false
 
 pub pass_spec : {M : Type 1} → statement M
 pass_spec =

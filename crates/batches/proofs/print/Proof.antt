@@ -114,8 +114,8 @@ returns-3 c =
     let u = c.before.loop.invariant in
     (u, λ e h. absurd (omega (arith, c.loop-test.false)))
 
-pub print-spec : {M : Type 1} → statement M
-print-spec =
+pub print_spec : {M : Type 1} → statement M
+print_spec =
     tie.close
     (tie.spec
     invariant-loop

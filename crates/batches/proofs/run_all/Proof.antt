@@ -9,5 +9,5 @@ invariant-loop buf₀ out₀ next₀ turns₀ buf out next turns = Unit
 abbrev decreases-loop : tie.decreases-loop
 decreases-loop buf₀ out₀ next₀ turns₀ buf out next turns = turns
 
-pub run-all-spec : {M : Type 1} → statement M
-run-all-spec = tie.close (tie.spec invariant-loop decreases-loop (search rules) (search rules) (search rules) (search rules) (search rules) (search rules) (search rules) (search rules))
+pub run_all_spec : {M : Type 1} → statement M
+run_all_spec = tie.close (tie.spec invariant-loop decreases-loop (search rules) (search rules) (search rules) (search rules) (search rules) (search rules) (search rules) (search rules))

@@ -1,5 +1,5 @@
 -- `batches::whole` meets its contract. Assumes nothing.
-use Rattle.batches.proofs.Again.{firsts-take}
+use Rattle.batches.proofs.Again.{firsts_take}
 use Rattle.std.proofs.Common.{rules}
 use Rattle.batches.proofs.whole.Statement.{statement}
 use Rattle.batches.proofs.whole.Tie as tie
@@ -7,10 +7,10 @@ use Rattle.batches.proofs.whole.Tie as tie
 returns : tie.Need-returns
 returns c =
     let at = c.before.before.before.before.before.before.before.before.before.before.before.before in
-    firsts-take 12 at.args.bytes.now at.requires
+    firsts_take 12 at.args.bytes.now at.requires
 
-pub whole-spec : {M : Type 1} → statement M
-whole-spec =
+pub whole_spec : {M : Type 1} → statement M
+whole_spec =
     tie.close
     (tie.spec
     (search rules)

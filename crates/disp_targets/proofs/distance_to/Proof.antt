@@ -12,5 +12,5 @@ returns c =
     let e : c.before.wrapping-sub-u64.result ≡ (p.before.page.result + (2 ^ 64 - p.page2.result)) % 2 ^ 64 = omega arith in
     to_z-of_z {w = w64} (record { sfits = c.Signed-of.type-inv }) ∙ c.Signed-of.ensures ∙ ap (to_z w64) (rw (t, o) at e)
 
-pub distance-to-spec : {M : Type 1} → statement M
-distance-to-spec = tie.close (tie.spec (search rules) (search rules) (search rules) (search rules) returns)
+pub distance_to_spec : {M : Type 1} → statement M
+distance_to_spec = tie.close (tie.spec (search rules) (search rules) (search rules) (search rules) returns)

@@ -4,9 +4,9 @@ use Rattle.words.specs.Listed.{packed}
 use Rattle.words.specs.Place.{address_of}
 use Rattle.words.specs.declared.Address.{Address}
 use Rattle.writers.specs.Put.{put_of}
-use Rattle.writers.proofs.Writes.{put-no}
-use Rattle.disp_targets.specs.Target.{targetSaid, low_of, carrying, putTo}
-use Rattle.disp_targets.proofs.Targets.{put-target}
+use Rattle.writers.proofs.Writes.{put_no}
+use Rattle.disp_targets.specs.Target.{target_said, low_of, carrying, put_to}
+use Rattle.disp_targets.proofs.Targets.{put_target_lem}
 use Rattle.disp_targets.proofs.emit_disp_target.Statement.{statement}
 use Rattle.disp_targets.proofs.emit_disp_target.Tie as tie
 
@@ -16,10 +16,10 @@ returns c =
     let m = p.before in
     let a = m.before.before.before.before.args in
     let put = put_of a.words.now a.at in
-    p.put-target.ensures
-    ∙ ap (putTo put) m.disp-target-word.ensures
-    ∙ ap (λ (at : Address). putTo put (carrying (low_of a.format a.target.0) (packed (targetSaid a.format a.base.0 a.target.0 at.0)))) m.before.address-of.ensures
-    ∙ put-target put (put-no a.words.now a.at) a.format a.base.0 a.target.0 (address_of a.at)
+    p.put_target_lem.ensures
+    ∙ ap (put_to put) m.disp-target-word.ensures
+    ∙ ap (λ (at : Address). put_to put (carrying (low_of a.format a.target.0) (packed (target_said a.format a.base.0 a.target.0 at.0)))) m.before.address-of.ensures
+    ∙ put_target_lem put (put_no a.words.now a.at) a.format a.base.0 a.target.0 (address_of a.at)
 
-pub emit-disp-target-spec : {M : Type 1} → statement M
-emit-disp-target-spec = tie.close (tie.spec (search rules) (search rules) (search rules) (search rules) returns)
+pub emit_disp_target_spec : {M : Type 1} → statement M
+emit_disp_target_spec = tie.close (tie.spec (search rules) (search rules) (search rules) (search rules) returns)

@@ -9,5 +9,5 @@ returns c = simp (eq-eqb _ _ c.if1.true)
 returns-2 : tie.Need-returns-2
 returns-2 c = simp (ne_eqb _ _ c.if1.false)
 
-pub page-spec : {M : Type 1} → statement M
-page-spec = tie.close (tie.spec (search rules) returns returns-2)
+pub page_spec : {M : Type 1} → statement M
+page_spec = tie.close (tie.spec (search rules) returns returns-2)

@@ -9,5 +9,5 @@ returns c = rw c.before.w.given.1 refl
 returns-2 : tie.Need-returns-2
 returns-2 c = rw c.before.w2.given.1 refl
 
-pub wrote-spec : {M : Type 1} → statement M
-wrote-spec = tie.close (tie.spec (search rules) (search rules) returns returns-2)
+pub wrote_spec : {M : Type 1} → statement M
+wrote_spec = tie.close (tie.spec (search rules) (search rules) returns returns-2)

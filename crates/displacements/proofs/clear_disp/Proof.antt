@@ -1,7 +1,7 @@
 -- `displacements::clear_disp` meets its contract. Assumes nothing.
 use Rattle.std.proofs.Common.{sym, ap, ◌∙◌, arith, rules}
 use Rattle.displacements.specs.declared.Form.{Form}
-use Rattle.displacements.specs.Forms.{clearIn}
+use Rattle.displacements.specs.Forms.{clear_in}
 use Rattle.displacements.proofs.Laws.{sound}
 use Rattle.displacements.proofs.Cleared.{no_field}
 use Rattle.displacements.proofs.clear_disp.Statement.{statement}
@@ -14,7 +14,7 @@ clear-field-requires : tie.Need-clear-field-requires
 clear-field-requires c κs = rw c.form_of.ensures (sound c.before.before.args.format (omega (arith, c.before.if1.false)))
 
 returns-2 : tie.Need-returns-2
-returns-2 c = let k = c.before in let a = k.before.before.args in c.clear-field.ensures ∙ ap (λ (f : Form). clearIn f a.word.0) k.form_of.ensures
+returns-2 c = let k = c.before in let a = k.before.before.args in c.clear-field.ensures ∙ ap (λ (f : Form). clear_in f a.word.0) k.form_of.ensures
 
-pub clear-disp-spec : {M : Type 1} → statement M
-clear-disp-spec = tie.close (tie.spec returns (search rules) clear-field-requires returns-2)
+pub clear_disp_spec : {M : Type 1} → statement M
+clear_disp_spec = tie.close (tie.spec returns (search rules) clear-field-requires returns-2)

@@ -2,7 +2,7 @@
 use Rattle.std.proofs.Common.{not, sym, ap, ◌∙◌, arith, rules, le-ltb, lt-ltb}
 use Rattle.words.specs.Listed.{packed}
 use Rattle.displacements.specs.declared.Form.{Form}
-use Rattle.displacements.specs.Answer.{placeSaid}
+use Rattle.displacements.specs.Answer.{place_said}
 use Rattle.displacements.proofs.Laws.{sound}
 use Rattle.displacements.proofs.disp_word.Statement.{statement}
 use Rattle.displacements.proofs.disp_word.Tie as tie
@@ -21,7 +21,7 @@ returns-3 c =
     let k = c.before.before in
     let a = k.before.before.before.args in
     simp (le-ltb _ _ k.before.before.if1.false, ap not (sym k.before.of-form.ensures) ∙ k.if2.false)
-    (c.place.ensures ∙ ap (λ (f : Form). packed (placeSaid f a.base.0 a.distance.0)) c.before.form_of.ensures)
+    (c.place.ensures ∙ ap (λ (f : Form). packed (place_said f a.base.0 a.distance.0)) c.before.form_of.ensures)
 
-pub disp-word-spec : {M : Type 1} → statement M
-disp-word-spec = tie.close (tie.spec returns (search rules) returns-2 (search rules) place-requires returns-3)
+pub disp_word_spec : {M : Type 1} → statement M
+disp_word_spec = tie.close (tie.spec returns (search rules) returns-2 (search rules) place-requires returns-3)

@@ -26,8 +26,8 @@ returns-6 c = c.row6.ensures ∙ sym (ap form_of c.before.match.keys6)
 returns-7 : tie.Need-returns-7
 returns-7 c = c.row7.ensures ∙ sym (get_or-eq_default forms _ {n = c.before.before.args.format} (omega arith))
 
-pub form-of-spec : {M : Type 1} → statement M
-form-of-spec =
+pub form_of_spec : {M : Type 1} → statement M
+form_of_spec =
     tie.close
     (tie.spec
     (search rules)

@@ -28,8 +28,8 @@ returns-6 c = c.row6.ensures ∙ sym (ap fixed_of c.before.match.keys6)
 returns-7 : tie.Need-returns-7
 returns-7 c = c.row7.ensures ∙ sym (get_or-eq_default fixeds _ {n = c.before.before.args.format} (omega arith))
 
-pub fixed-of-spec : {M : Type 1} → statement M
-fixed-of-spec =
+pub fixed_of_spec : {M : Type 1} → statement M
+fixed_of_spec =
     tie.close
     (tie.spec
     (search rules)

@@ -13,5 +13,5 @@ returns c = simp (lt-ltb _ _ c.if1.true)
 returns-2 : tie.Need-returns-2
 returns-2 c = simp (le-ltb _ _ c.before.if1.false) (ap (λ (b : Bool). Said.ok b) c.of-form.ensures)
 
-pub has-form-spec : {M : Type 1} → statement M
-has-form-spec = tie.close (tie.spec returns (search rules) returns-2)
+pub has_form_spec : {M : Type 1} → statement M
+has_form_spec = tie.close (tie.spec returns (search rules) returns-2)

@@ -6,5 +6,5 @@ use Rattle.fp_picks.proofs.fp_row.Tie as tie
 returns : tie.Need-returns
 returns c = refl
 
-pub fp-row-spec : {M : Type 1} → statement M
-fp-row-spec = tie.close (tie.spec (search rules) (search rules) returns)
+pub fp_row_spec : {M : Type 1} → statement M
+fp_row_spec = tie.close (tie.spec (search rules) (search rules) returns)

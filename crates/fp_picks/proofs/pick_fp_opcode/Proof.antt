@@ -24,5 +24,5 @@ returns-4 c =
     simp (le-ltb _ _ c.before.before.before.if1.false, le-ltb _ _ c.before.before.if2.false, ne_eqb _ _ c.before.if3.false)
     c.pick-vector.ensures
 
-pub pick-fp-opcode-spec : {M : Type 1} → statement M
-pick-fp-opcode-spec = tie.close (tie.spec returns returns-2 (search rules) returns-3 (search rules) returns-4)
+pub pick_fp_opcode_spec : {M : Type 1} → statement M
+pick_fp_opcode_spec = tie.close (tie.spec returns returns-2 (search rules) returns-3 (search rules) returns-4)

@@ -2,23 +2,23 @@
 use Rattle.std.proofs.Common.{◌≡◌, ◌+◌, ◌-◌, arith, rules, le-ltb, lt-ltb}
 use Rattle.simd.specs.Kinds.{Vec64, Vec128, H, D}
 use Rattle.simd.proofs.Laws.{inside, outside}
-use Rattle.fp_picks.specs.Pick.{vectorOf}
-use Rattle.fp_picks.proofs.Laws.{bit-30}
+use Rattle.fp_picks.specs.Pick.{vector_of}
+use Rattle.fp_picks.proofs.Laws.{bit_30}
 use Rattle.fp_picks.proofs.pick_vector.Statement.{statement}
 use Rattle.fp_picks.proofs.pick_vector.Tie as tie
 
 returns : tie.Need-returns
-unfolding vectorOf
+unfolding vector_of
 returns c = simp (lt-ltb _ _ c.if1.true)
 
 returns-2 : tie.Need-returns-2
-unfolding vectorOf
+unfolding vector_of
 returns-2 c =
     let a = c.before.before in
     simp (le-ltb _ _ a.if1.false, outside Vec64 Vec128 a.before.args.kind (λ h k. omega (arith, c.before.wrapping-sub-u32.ensures)))
 
 returns-3 : tie.Need-returns-3
-unfolding vectorOf
+unfolding vector_of
 returns-3 c =
     let k = c.before.before.before in
     let a = k.before.before.args in
@@ -29,7 +29,7 @@ returns-3 c =
     )
 
 returns-4 : tie.Need-returns-4
-unfolding vectorOf
+unfolding vector_of
 returns-4 c =
     let e = c.before.before.before in
     let k = e.before.before in
@@ -41,9 +41,9 @@ returns-4 c =
       inside Vec64 Vec128 a.kind (omega arith) (omega arith),
       inside H D a.element (omega arith) (omega arith),
       size,
-      ← bit-30 a.kind a.op.0 k.wrapping-sub-u32.result (omega arith) q,
+      ← bit_30 a.kind a.op.0 k.wrapping-sub-u32.result (omega arith) q,
     )
     c.row_word.ensures
 
-pub pick-vector-spec : {M : Type 1} → statement M
-pick-vector-spec = tie.close (tie.spec returns (search rules) returns-2 (search rules) returns-3 (search rules) (search rules) returns-4)
+pub pick_vector_spec : {M : Type 1} → statement M
+pick_vector_spec = tie.close (tie.spec returns (search rules) returns-2 (search rules) returns-3 (search rules) (search rules) returns-4)

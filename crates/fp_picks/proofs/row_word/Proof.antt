@@ -24,5 +24,5 @@ returns-3 c =
     let k = tests.before.before.before in
     simp (← k.before.fp-row.ensures, sym k.bit_test.ensures ∙ not-false _ tests.before.before.if1.false, ne_eqb _ _ tests.if2.false)
 
-pub row-word-spec : {M : Type 1} → statement M
-row-word-spec = tie.close (tie.spec (search rules) (search rules) returns returns-2 (search rules) (search rules) returns-3)
+pub row_word_spec : {M : Type 1} → statement M
+row_word_spec = tie.close (tie.spec (search rules) (search rules) returns returns-2 (search rules) (search rules) returns-3)

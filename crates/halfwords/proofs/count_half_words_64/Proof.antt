@@ -2,7 +2,7 @@
 use mathlib.Core.Path.{◌≡◌, refl}
 use Prim.Native.Nat.{◌-◌, ◌≤◌}
 use native.Mathlib.Omega.{arith}
-use Rattle.halfwords.proofs.Pass.{among, above, next, up, all-four}
+use Rattle.halfwords.proofs.Pass.{among, above, next, up, all_four}
 use borrow.Author.Rules.{rules}
 use Rattle.halfwords.proofs.count_half_words_64.Statement.{statement}
 use Rattle.halfwords.proofs.count_half_words_64.Tie as tie
@@ -29,10 +29,10 @@ returns : tie.Need-returns invariant-loop decreases-loop
 returns c =
     let p = c.before.loop.invariant in
     let four : c.before.loop.k ≡ 4 = omega arith in
-    record { zeros = all-four 0 _ four p.4; ones = all-four 0xFFFF _ four p.5 }
+    record { zeros = all_four 0 _ four p.4; ones = all_four 0xFFFF _ four p.5 }
 
-pub count-half-words-64-spec : {M : Type 1} → statement M
-count-half-words-64-spec =
+pub count_half_words_64_spec : {M : Type 1} → statement M
+count_half_words_64_spec =
     tie.close
     (tie.spec
     invariant-loop

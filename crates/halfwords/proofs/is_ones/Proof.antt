@@ -8,5 +8,5 @@ use Rattle.halfwords.proofs.is_ones.Tie as tie
 returns : tie.Need-returns
 returns c = record { is = carries c.args.h (omega arith); small = omega arith }
 
-pub is-ones-spec : {M : Type 1} → statement M
-is-ones-spec = tie.close (tie.spec (search rules) (search rules) returns)
+pub is_ones_spec : {M : Type 1} → statement M
+is_ones_spec = tie.close (tie.spec (search rules) (search rules) returns)

@@ -3,7 +3,7 @@ use mathlib.Core.Path.{ap, ◌∙◌}
 use Rattle.words.specs.Answer.{made}
 use Rattle.words.specs.Listed.{listed}
 use Rattle.words.specs.declared.Place.{Place}
-use Rattle.host.specs.Number.{hostPut}
+use Rattle.host.specs.Number.{host_put}
 use Rattle.host.proofs.Laws.{near, hosted}
 use borrow.Author.Rules.{rules}
 use Rattle.host.proofs.put.Statement.{statement}
@@ -22,7 +22,7 @@ returns c =
     let at = p.before.before in
     let a = at.before.before.args in
     hosted a.bytes.now at.place.result a.m p.put-bytes.result _ p.put-bytes.ensures c.written.ensures
-    ∙ ap (λ (k : Place). hostPut a.bytes.now k (listed (made a.m))) at.place.ensures
+    ∙ ap (λ (k : Place). host_put a.bytes.now k (listed (made a.m))) at.place.ensures
 
 pub put_spec : {M : Type 1} → statement M
 put_spec = tie.close (tie.spec (search rules) (search rules) written-requires (search rules) returns)

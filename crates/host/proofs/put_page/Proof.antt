@@ -6,8 +6,8 @@ use Rattle.words.specs.Said.{ok}
 use Rattle.words.specs.Listed.{list_of}
 use Rattle.words.specs.declared.Place.{Place}
 use Rattle.words.specs.declared.Worded.TheVariants.{Made}
-use Rattle.host.specs.Number.{hostPutTo}
-use Rattle.host.proofs.Laws.{near, hosted-page}
+use Rattle.host.specs.Number.{host_put_to}
+use Rattle.host.proofs.Laws.{near, hosted_page}
 use Rattle.host.proofs.put_page.Statement.{statement}
 use Rattle.host.proofs.put_page.Tie as tie
 
@@ -23,8 +23,8 @@ returns c =
     let p = c.before.before.before in
     let at = p.before.before in
     let a = at.before.before.args in
-    hosted-page a.bytes.now at.place.result (Made a.f) p.put-bytes.result _ p.put-bytes.ensures a.low.0 c.written-page.ensures
-    ∙ ap (λ (k : Place). hostPutTo a.bytes.now k (some a.low.0) (ok (list_of a.f))) at.place.ensures
+    hosted_page a.bytes.now at.place.result (Made a.f) p.put-bytes.result _ p.put-bytes.ensures a.low.0 c.written-page.ensures
+    ∙ ap (λ (k : Place). host_put_to a.bytes.now k (some a.low.0) (ok (list_of a.f))) at.place.ensures
 
-pub put-page-spec : {M : Type 1} → statement M
-put-page-spec = tie.close (tie.spec (search rules) (search rules) written-page-requires (search rules) returns)
+pub put_page_spec : {M : Type 1} → statement M
+put_page_spec = tie.close (tie.spec (search rules) (search rules) written-page-requires (search rules) returns)

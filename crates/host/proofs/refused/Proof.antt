@@ -6,5 +6,5 @@ use Rattle.host.proofs.refused.Tie as tie
 returns : tie.Need-returns
 returns c = c.number.ensures
 
-pub refused-spec : {M : Type 1} → statement M
-refused-spec = tie.close (tie.spec (search rules) (search rules) returns)
+pub refused_spec : {M : Type 1} → statement M
+refused_spec = tie.close (tie.spec (search rules) (search rules) returns)

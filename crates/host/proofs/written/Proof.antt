@@ -16,5 +16,5 @@ returns c = let h = rw c.before.before.before.w.given.1 at c.before.before.befor
 returns-2 : tie.Need-returns-2
 returns-2 c = rw c.before.before.w2.given.1 c.refused.ensures
 
-pub written-spec : {M : Type 1} → statement M
-written-spec = tie.close (tie.spec (search rules) sub-result mul-result (search rules) (search rules) returns returns-2)
+pub written_spec : {M : Type 1} → statement M
+written_spec = tie.close (tie.spec (search rules) sub-result mul-result (search rules) (search rules) returns returns-2)

@@ -27,6 +27,6 @@ returns c =
 returns-2 : tie.Need-returns-2
 returns-2 c = rw c.before.before.w2.given.1 c.refused.ensures
 
-pub written-page-spec : {M : Type 1} → statement M
-written-page-spec =
+pub written_page_spec : {M : Type 1} → statement M
+written_page_spec =
     tie.close (tie.spec (search rules) sub-result mul-result (search rules) (search rules) add-result (search rules) (search rules) returns returns-2)

@@ -9,5 +9,5 @@ returns c = rw c.if1.true refl
 returns-2 : tie.Need-returns-2
 returns-2 c = rw c.if1.false refl
 
-pub yes-spec : {M : Type 1} → statement M
-yes-spec = tie.close (tie.spec returns returns-2)
+pub yes_spec : {M : Type 1} → statement M
+yes_spec = tie.close (tie.spec returns returns-2)

@@ -2,10 +2,10 @@
 use mathlib.Core.Path.{ap, ◌∙◌}
 use mir.Facts.{to_z-of_z}
 use Rattle.words.specs.Listed.{listed}
-use Rattle.words.proofs.Answers.{listed-packed}
-use Rattle.displacements.specs.Answer.{dispSaid}
+use Rattle.words.proofs.Answers.{listed_packed}
+use Rattle.displacements.specs.Answer.{disp_said}
 use Rattle.displacements.proofs.Answers.{short}
-use Rattle.words.specs.Place.{placeAt}
+use Rattle.words.specs.Place.{place_at}
 use Rattle.host.proofs.Laws.{asked}
 use borrow.Author.Rules.{rules}
 use Rattle.host_displacements.proofs.vaimalofo_displacement.Statement.{statement}
@@ -16,8 +16,8 @@ returns c =
     let m = c.before.before.before in
     let start = m.before.before.before in
     let a = start.args in
-    asked a.bytes.now (placeAt a.base-address a.position) c.before.before.put.ensures
-    (ap listed (rw (to_z-of_z start.ranges.distance) at m.disp_word.ensures) ∙ listed-packed (dispSaid a.format a.base a.distance) (short a.format a.base a.distance))
+    asked a.bytes.now (place_at a.base-address a.position) c.before.before.put.ensures
+    (ap listed (rw (to_z-of_z start.ranges.distance) at m.disp_word.ensures) ∙ listed_packed (disp_said a.format a.base a.distance) (short a.format a.base a.distance))
 
-pub vaimalofo-displacement-spec : {M : Type 1} → statement M
-vaimalofo-displacement-spec = tie.close (tie.spec (search rules) (search rules) (search rules) returns)
+pub vaimalofo_displacement_spec : {M : Type 1} → statement M
+vaimalofo_displacement_spec = tie.close (tie.spec (search rules) (search rules) (search rules) returns)

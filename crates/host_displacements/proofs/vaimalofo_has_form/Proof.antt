@@ -13,5 +13,5 @@ returns-2 c =
     let at = c.before.before in
     rw (← at.before.before.has-form.ensures, at.r.given.1) c.refused.ensures
 
-pub vaimalofo-has-form-spec : {M : Type 1} → statement M
-vaimalofo-has-form-spec = tie.close (tie.spec (search rules) (search rules) (search rules) (search rules) (search rules) returns returns-2)
+pub vaimalofo_has_form_spec : {M : Type 1} → statement M
+vaimalofo_has_form_spec = tie.close (tie.spec (search rules) (search rules) (search rules) (search rules) (search rules) returns returns-2)

@@ -17,6 +17,6 @@ returns-2 c =
     let at = c.before.before in
     rw (← at.before.before.read-disp.ensures, at.r.given.1) c.refused.ensures
 
-pub vaimalofo-read-displacement-spec : {M : Type 1} → statement M
-vaimalofo-read-displacement-spec =
+pub vaimalofo_read_displacement_spec : {M : Type 1} → statement M
+vaimalofo_read_displacement_spec =
     tie.close (tie.spec (search rules) (search rules) (search rules) (search rules) (search rules) returns returns-2)

@@ -10,5 +10,5 @@ returns c = rw c.before.c.given.1 (omega arith)
 returns-2 : tie.Need-returns-2
 returns-2 c = search rules
 
-pub told-spec : {M : Type 1} → statement M
-told-spec = tie.close (tie.spec (search rules) (search rules) (search rules) (search rules) returns returns-2)
+pub told_spec : {M : Type 1} → statement M
+told_spec = tie.close (tie.spec (search rules) (search rules) (search rules) (search rules) returns returns-2)

@@ -14,5 +14,5 @@ returns c =
     let e = rw c.before.before.before.before.place.ensures at c.before.before.before.bind.ensures in
     rw c.bound.ensures (ap (λ (p : Said Unit × List ℕ). numbering (λ (u : Unit). pos 0) p) e)
 
-pub vaimalofo-bind-label-spec : {M : Type 1} → statement M
-vaimalofo-bind-label-spec = tie.close (tie.spec (search rules) (search rules) (search rules) (search rules) returns)
+pub vaimalofo_bind_label_spec : {M : Type 1} → statement M
+vaimalofo_bind_label_spec = tie.close (tie.spec (search rules) (search rules) (search rules) (search rules) returns)

@@ -40,30 +40,30 @@ use denote.Triple.Table.{entered, cited}
 use denote.Triple.Walked.{says, Stays, stay_none, stay_none_slice, gave_slice, walk_of, Goes-none, Goes-none_slice, Goes-gave_slice, Walks, ends_at, walked, walk_Meets}
 use denote.Exit.{yes}
 use Rattle.words.specs.Said.{Said}
-use Rattle.words.specs.Place.{placeAt}
+use Rattle.words.specs.Place.{place_at}
 use Rattle.words.specs.declared.Place.{Place}
 use Rattle.words.specs.contracts.Place as P
 use Rattle.words.proofs.Place.TheLaws as P'
 use Rattle.labels.specs.declared.Use.{Use}
 use Rattle.labels.specs.declared.Counted.{Counted}
-use Rattle.labels.specs.Sheet.{finishOf, countSaid}
+use Rattle.labels.specs.Sheet.{finish_of, count_said}
 use Rattle.labels.specs.contracts.Use as T
 use Rattle.labels.specs.contracts.Counted as E
 use Rattle.labels.proofs.Counted.TheLaws as E'
-use Rattle.host_labels.specs.Number.{hostCount, hostFinish}
-use Rattle.host_labels.proofs.Counts.{count-told}
+use Rattle.host_labels.specs.Number.{host_count, host_finish}
+use Rattle.host_labels.proofs.Counts.{count_told}
 use Rattle.host.specs.contracts.place as place
-use Rattle.host.proofs.place.Symbol as place-def
+use Rattle.host.proofs.place.Symbol as place_def
 use Rattle.host.proofs.place.Symbol.{name as #host·place}
-use Rattle.host.proofs.place.Met as place-thm
+use Rattle.host.proofs.place.Met as place_thm
 use Rattle.label_sheets.specs.contracts.finish as fin
-use Rattle.label_sheets.proofs.finish.Symbol as fin-def
+use Rattle.label_sheets.proofs.finish.Symbol as fin_def
 use Rattle.label_sheets.proofs.finish.Symbol.{name as #label-sheets·finish}
-use Rattle.label_sheets.proofs.finish.Met as fin-thm
+use Rattle.label_sheets.proofs.finish.Met as fin_thm
 use Rattle.host_labels.specs.contracts.told as told
-use Rattle.host_labels.proofs.told.Symbol as told-def
+use Rattle.host_labels.proofs.told.Symbol as told_def
 use Rattle.host_labels.proofs.told.Symbol.{name as #host-labels·told}
-use Rattle.host_labels.proofs.told.Met as told-thm
+use Rattle.host_labels.proofs.told.Met as told_thm
 use Rattle.host_labels.specs.contracts.vaimalofo_finish_labels.Key.{name as #host-labels·finish-labels}
 use Rattle.host_labels.specs.contracts.vaimalofo_finish_labels as fl
 use Rattle.host_labels.proofs.vaimalofo_finish_labels.Statement as stated
@@ -138,7 +138,7 @@ module _ {M : Type 1} {𝓤 : Ura M} (𝓛 : Logic 𝓤) (mem : Memory → SProp
   abbrev ShrL : Fml
   ShrL = (ShrSlice (named 1) κ' usize).own_val lref at.1.1.0
 
-  exits : (y : ℕ) (w : Val) (zs : List ℕ) → length zs ≡ length ws → (y, zs) ≡ hostFinish ls ws us n (placeAt ba 0)
+  exits : (y : ℕ) (w : Val) (zs : List ℕ) → length zs ≡ length ws → (y, zs) ≡ host_finish ls ws us n (place_at ba 0)
       → ent 𝓤 (⋆ 𝓛 (‵ (u64.own_val y (w ∷ [])) ∷ ‵ (finally u32 γ'' zs) ∷ (‵ (flft κ q) ⊛ ‵ (flft κ' q') ⊛ ‵ (flft κ'' q'') ⊛ ‵ ftrue) ∷ ‵ ShrU ∷ ‵
       ShrL ∷ [])) (Post w)
   exits y w zs l e =
@@ -158,8 +158,8 @@ module _ {M : Type 1} {𝓤 : Ura M} (𝓛 : Logic 𝓤) (mem : Memory → SProp
   asked₁ : ent 𝓤 (⋆ 𝓛 (‵ ftrue ∷ ‵ (owns (u64 ∷ usize ∷ []) (ba, (0, tt)) vals₁) ∷ [])) ((PlaceC 𝓛 mem run).pre to₁)
   asked₁ = qed 𝓛 (‵ ftrue ∷ ‵ (owns (u64 ∷ usize ∷ []) (ba, (0, tt)) vals₁) ∷ []) ∵ join ! $ frame ! $ done !
 
-  said₁ : (y : Place) → ent 𝓤 (ensured 𝓛 place.ended (place.clauses 𝓛 mem run) tt (ba, (0, tt)) tt y) (fact 𝓤 (y ≡ placeAt ba 0))
-  said₁ y = ex_e 𝓤 _ (λ vs. snd∗ 𝓤 (sem 𝓛 (lasts place.ended tt (ba, (0, tt)) vs)) (fact 𝓤 (y ≡ placeAt ba 0)))
+  said₁ : (y : Place) → ent 𝓤 (ensured 𝓛 place.ended (place.clauses 𝓛 mem run) tt (ba, (0, tt)) tt y) (fact 𝓤 (y ≡ place_at ba 0))
+  said₁ y = ex_e 𝓤 _ (λ vs. snd∗ 𝓤 (sem 𝓛 (lasts place.ended tt (ba, (0, tt)) vs)) (fact 𝓤 (y ≡ place_at ba 0)))
 
   -- the finishing, to which the words are given up
   abbrev vals₂ : (pl : Place) → Vals fin.signature (κ, (κ', (κ'', tt)))
@@ -187,8 +187,8 @@ module _ {M : Type 1} {𝓤 : Ura M} (𝓛 : Logic 𝓤) (mem : Memory → SProp
   asked₃ v c = qed 𝓛 (‵ ftrue ∷ ‵ (owns (E.the_row ∷ []) (c, tt) (vals₃ v c)) ∷ []) ∵ join ! $ frame ! $ done !
 
   said₃ : (v : Val) (c : Counted) (y : ℕ) → ent 𝓤 (ensured 𝓛 told.ended (told.clauses 𝓛 mem run) tt (c, tt) tt y)
-      (fact 𝓤 (y ≡ hostCount (countSaid c)))
-  said₃ v c y = ex_e 𝓤 _ (λ vs. snd∗ 𝓤 (sem 𝓛 (lasts told.ended tt (c, tt) vs)) (fact 𝓤 (y ≡ hostCount (countSaid c))))
+      (fact 𝓤 (y ≡ host_count (count_said c)))
+  said₃ v c y = ex_e 𝓤 _ (λ vs. snd∗ 𝓤 (sem 𝓛 (lasts told.ended tt (c, tt) vs)) (fact 𝓤 (y ≡ host_count (count_said c))))
 
   module _ (C : Calls 𝓤 H) (Λ : Loops 𝓤 H) (fm : FmC 𝓤 H 𝓛.laws C) (known : Known 𝓛 mem run C) where
     walk : ent 𝓤 (on_entry 𝓛 fl.signature (κ, (κ', (κ'', tt))) (q, (q', (q'', tt))) x at)
@@ -212,7 +212,7 @@ module _ {M : Type 1} {𝓤 : Ura M} (𝓛 : Logic 𝓤) (mem : Memory → SProp
         (and_then ! (lit ! tt) (no_more !))) (λ v₁.
         use1 𝓛 (later (some (λ (pl : Place). (‵ ftrue ⊛ ‵ ((P.the_row).own_val pl (v₁ ∷ []))) ⊛ raw
         (ensured 𝓛 place.ended (place.clauses 𝓛 mem run) tt (ba, (0, tt)) tt pl)))) (id⊢ 𝓤 _) $ await ! tt $ pick ! (λ pl. split ! $
-        move ! (1 ∷ []) $ use1 𝓛 (raw (fact 𝓤 (pl ≡ placeAt ba 0))) (said₁ pl) $ heard ! (pl ≡ placeAt ba 0) (λ ep. split ! $ move ! (1 ∷ []) $
+        move ! (1 ∷ []) $ use1 𝓛 (raw (fact 𝓤 (pl ≡ place_at ba 0))) (said₁ pl) $ heard ! (pl ≡ place_at ba 0) (λ ep. split ! $ move ! (1 ∷ []) $
         peeks ! P.the_row (Is P.the_row) (shows 𝓛 P.the_row) pl (v₁ ∷ [])
         (λ is₁. let p : Is P.the_row pl (P'.lowered pl ∷ []) = subst (Is P.the_row pl) ((P'.lowers).val_is pl (v₁ ∷ []) is₁) is₁ in
         land ! (from ! (stop !)) (init ! 8 refl ((LL.lawful P.the_type P'.the_laws 𝓛).typed pl _ is₁).0) $ drop ! $
@@ -237,8 +237,8 @@ module _ {M : Type 1} {𝓤 : Ura M} (𝓛 : Logic 𝓤) (mem : Memory → SProp
         await ! tt $ pick ! (λ c. split ! $ move ! (1 ∷ []) $
         use1 𝓛 (some (λ (zs : Unit {0} × (Unit {0} × (Unit {0} × (List ℕ × (Unit {0} × Unit {0}))))). ‵
         (lasts fin.ended (κ, (κ', (κ'', tt))) (uref, (n, (lref, (wref, (pl, tt))))) zs) ⊛ raw
-        (fact 𝓤 (◌≡◌ {A = Said ℕ × List ℕ} (countSaid c, zs.1.1.1.0) (finishOf pl ls ws us n))))) (id⊢ 𝓤 _) $ pick ! (λ zs. split ! $
-        move ! (1 ∷ []) $ heard ! (◌≡◌ {A = Said ℕ × List ℕ} (countSaid c, zs.1.1.1.0) (finishOf pl ls ws us n)) (λ ez. fsplit ! $ drop ! $
+        (fact 𝓤 (◌≡◌ {A = Said ℕ × List ℕ} (count_said c, zs.1.1.1.0) (finish_of pl ls ws us n))))) (id⊢ 𝓤 _) $ pick ! (λ zs. split ! $
+        move ! (1 ∷ []) $ heard ! (◌≡◌ {A = Said ℕ × List ℕ} (count_said c, zs.1.1.1.0) (finish_of pl ls ws us n)) (λ ez. fsplit ! $ drop ! $
         fsplit ! $ drop ! $ fsplit ! $ drop ! $ fsplit ! $ fsplit ! $ move ! (1 ∷ []) $ feq_l ! (λ l. move ! (2 ∷ []) $ split ! $ move ! (1 ∷ []) $
         peeks ! E.the_row (Is E.the_row) (shows 𝓛 E.the_row) c (v₂ ∷ []) (λ is₂.
         land ! (from ! (stop !)) (init ! 10 refl ((EL.lawful E.the_type E'.the_laws 𝓛 tt).typed c _ is₂).0) $
@@ -247,7 +247,7 @@ module _ {M : Type 1} {𝓤 : Ura M} (𝓛 : Logic 𝓤) (mem : Memory → SProp
         calls_at ! fm (ToldC 𝓛 mem run) known.1.1 (to₃ v₂ c) (and_then ! (load ! (from ! (stop !)) (look ! 10 refl)) (no_more !)) (λ v₃.
         use1 𝓛 (later (some (λ (y : ℕ). (‵ ftrue ⊛ ‵ (u64.own_val y (v₃ ∷ []))) ⊛ raw
         (ensured 𝓛 told.ended (told.clauses 𝓛 mem run) tt (c, tt) tt y)))) (id⊢ 𝓤 _) $ await ! tt $ pick ! (λ y. split ! $
-        move ! (1 ∷ []) $ use1 𝓛 (raw (fact 𝓤 (y ≡ hostCount (countSaid c)))) (said₃ v₂ c y) $ heard ! (y ≡ hostCount (countSaid c)) (λ ey.
+        move ! (1 ∷ []) $ use1 𝓛 (raw (fact 𝓤 (y ≡ host_count (count_said c)))) (said₃ v₂ c y) $ heard ! (y ≡ host_count (count_said c)) (λ ey.
         split ! $ move ! (1 ∷ []) $ peeks ! u64 (Is u64) (shows 𝓛 u64) y (v₃ ∷ []) (λ is₃.
         land ! (from ! (stop !)) (init ! 25 refl ((uint_Lawful 𝓛 w64).typed y _ is₃).0) $ returns ! (look ! 25 refl) $ forget ! 7 refl $
         forget ! 9 refl $ forget ! 11 refl $ forget ! 13 refl $ forget ! 15 refl $ forget ! 17 refl $ forget ! 19 refl $ forget ! 21 refl $
@@ -255,14 +255,14 @@ module _ {M : Type 1} {𝓤 : Ura M} (𝓛 : Logic 𝓤) (mem : Memory → SProp
         move ! (19 ∷ 20 ∷ []) $ free1 ! $ move ! (17 ∷ 18 ∷ []) $ free1 ! $ move ! (15 ∷ 16 ∷ []) $ free1 ! $ move ! (13 ∷ 14 ∷ []) $ free1 ! $
         move ! (11 ∷ 12 ∷ []) $ free1 ! $ move ! (9 ∷ 10 ∷ []) $ free1 ! $ move ! (7 ∷ 8 ∷ []) $ free1 ! $ free0 ! $
         keep ! (0 ∷ 3 ∷ 2 ∷ 6 ∷ 5 ∷ []) $
-        by ! (exits y v₃ zs.1.1.1.0 l (count-told ey (ez ∙ ap (λ (x : Place). finishOf x ls ws us n) ep)))))))))))))))))))))))))))
+        by ! (exits y v₃ zs.1.1.1.0 l (count_told ey (ez ∙ ap (λ (x : Place). finish_of x ls ws us n) ep)))))))))))))))))))))))))))
 
 module _ {M : Type 1} {𝓤 : Ura M} (𝓛 : Logic 𝓤) (mem : Memory → SProp 𝓤) (run : Routine → Fun 𝓤) where
   open 𝓛 use {H}
 
-  fl-walks : (C : Calls 𝓤 H) (Λ : Loops 𝓤 H) → FmC 𝓤 H 𝓛.laws C → Known 𝓛 mem run C → Walks 𝓛 fl.ended stayed
+  fl_walks : (C : Calls 𝓤 H) (Λ : Loops 𝓤 H) → FmC 𝓤 H 𝓛.laws C → Known 𝓛 mem run C → Walks 𝓛 fl.ended stayed
       (WpFn 𝓤 H C Λ code.function) (fl.clauses 𝓛 mem run)
-  fl-walks C Λ fm known = walked 𝓛 fl.ended stayed (fl.clauses 𝓛 mem run) (WpFn 𝓤 H C Λ code.function)
+  fl_walks C Λ fm known = walked 𝓛 fl.ended stayed (fl.clauses 𝓛 mem run) (WpFn 𝓤 H C Λ code.function)
       (λ κs. (shr_slice_vals, (uint_vals w64, (shr_slice_vals, (shr_slice_vals, (uint_vals w64, tt))))))
       (λ κs. (
         shr_slice_Tells (named 0) κs.0 T.the_row,
@@ -277,10 +277,10 @@ module _ {M : Type 1} {𝓤 : Ura M} (𝓛 : Logic 𝓤) (mem : Memory → SProp
       a.1.1.1.0.ref_ptr.0 a.1.1.1.0.ref_ptr.1 a.1.1.1.0.ghost_name a.1.1.1.0.now a.1.1.1.1.0 are.0.0.1 are.1.0.1
       are.1.1.0.0.1 are.1.1.1.0.0.1 are.1.1.1.1.0.1 C Λ fm known))
 
-fl-meets : {M : Type 1} {𝓤 : Ura M} (𝓛 : Logic 𝓤) → (mem : Memory → SProp 𝓤) (run : Routine → Fun 𝓤) (𝓣 : Tables 𝓤 𝓛.H) →
+fl_meets : {M : Type 1} {𝓤 : Ura M} (𝓛 : Logic 𝓤) → (mem : Memory → SProp 𝓤) (run : Routine → Fun 𝓤) (𝓣 : Tables 𝓤 𝓛.H) →
     Known 𝓛 mem run 𝓣.C
     → Meets 𝓛 fl.signature (WpFn 𝓤 𝓛.H 𝓣.C 𝓣.Λ code.function) (fl.spec 𝓛 mem run)
-fl-meets {𝓤 = 𝓤} 𝓛 mem run 𝓣 known = walk_Meets 𝓛 fl.ended stayed (
+fl_meets {𝓤 = 𝓤} 𝓛 mem run 𝓣 known = walk_Meets 𝓛 fl.ended stayed (
   Goes-none_slice 𝓛 3 (0 ∷ []) tt (plain (λ _. T.the_row)) yes,
   (
     Goes-none 𝓛 3 (λ _. usize) yes (λ κs x f. refl),
@@ -291,19 +291,19 @@ fl-meets {𝓤 = 𝓤} 𝓛 mem run 𝓣 known = walk_Meets 𝓛 fl.ended stayed
   ),
 ) (fl.clauses 𝓛 mem run)
     (WpFn 𝓤 𝓛.H 𝓣.C 𝓣.Λ code.function) (WpFn-mono 𝓤 𝓛.H 𝓛.laws 𝓣 code.function)
-    (fl-walks 𝓛 mem run 𝓣.C 𝓣.Λ (fm_of 𝓤 𝓛.H 𝓛.laws 𝓣) known)
+    (fl_walks 𝓛 mem run 𝓣.C 𝓣.Λ (fm_of 𝓤 𝓛.H 𝓛.laws 𝓣) known)
 
-pub vaimalofo-finish-labels-spec : {M : Type 1} → stated.statement M
+pub vaimalofo_finish_labels_spec : {M : Type 1} → stated.statement M
 unfolding code.routine tables_of
-vaimalofo-finish-labels-spec 𝓤 𝓛 𝓜 𝓡 =
+vaimalofo_finish_labels_spec 𝓤 𝓛 𝓜 𝓡 =
     entered 𝓤 𝓛.H (triple_of 𝓛 fl.signature (fl.spec 𝓛 𝓜.mem 𝓡.run))
     (tables 𝓤 𝓛.H 𝓜 𝓡 code.env).C (tables 𝓤 𝓛.H 𝓜 𝓡 code.env).Λ #host-labels·finish-labels code.function (code.unfolded 𝓤 𝓛.H 𝓜 𝓡)
-    (fl-meets 𝓛 𝓜.mem 𝓡.run (tables_of 𝓤 𝓛.H 𝓜 (tables 𝓤 𝓛.H 𝓜 𝓡 code.env)) (
-      cited 𝓤 𝓛.H (PlaceC 𝓛 𝓜.mem 𝓡.run) 𝓜 𝓡 code.env #host·place place-def.routine code.calls-host::place (place-thm.met 𝓤 𝓛 𝓜 𝓡),
+    (fl_meets 𝓛 𝓜.mem 𝓡.run (tables_of 𝓤 𝓛.H 𝓜 (tables 𝓤 𝓛.H 𝓜 𝓡 code.env)) (
+      cited 𝓤 𝓛.H (PlaceC 𝓛 𝓜.mem 𝓡.run) 𝓜 𝓡 code.env #host·place place_def.routine code.calls-host::place (place_thm.met 𝓤 𝓛 𝓜 𝓡),
       (
-        cited 𝓤 𝓛.H (FinishC 𝓛 𝓜.mem 𝓡.run) 𝓜 𝓡 code.env #label-sheets·finish fin-def.routine code.calls-label-sheets::finish
-            (fin-thm.met 𝓤 𝓛 𝓜 𝓡),
-        cited 𝓤 𝓛.H (ToldC 𝓛 𝓜.mem 𝓡.run) 𝓜 𝓡 code.env #host-labels·told told-def.routine
-            code.calls-host-labels::told (told-thm.met 𝓤 𝓛 𝓜 𝓡),
+        cited 𝓤 𝓛.H (FinishC 𝓛 𝓜.mem 𝓡.run) 𝓜 𝓡 code.env #label-sheets·finish fin_def.routine code.calls-label-sheets::finish
+            (fin_thm.met 𝓤 𝓛 𝓜 𝓡),
+        cited 𝓤 𝓛.H (ToldC 𝓛 𝓜.mem 𝓡.run) 𝓜 𝓡 code.env #host-labels·told told_def.routine
+            code.calls-host-labels::told (told_thm.met 𝓤 𝓛 𝓜 𝓡),
       ),
     ))

@@ -39,30 +39,30 @@ use denote.Triple.Table.{entered, cited}
 use denote.Triple.Walked.{says, Stays, stay_none, stay_none_slice, gave_slice, walk_of, Goes-none, Goes-none_slice, Goes-gave_slice, Walks, ends_at, walked, walk_Meets}
 use denote.Exit.{yes}
 use Rattle.words.specs.Said.{Said}
-use Rattle.words.specs.Place.{placeAt}
+use Rattle.words.specs.Place.{place_at}
 use Rattle.words.specs.declared.Place.{Place}
 use Rattle.words.specs.contracts.Place as P
 use Rattle.words.proofs.Place.TheLaws as P'
 use Rattle.labels.specs.declared.Use.{Use}
 use Rattle.labels.specs.declared.Counted.{Counted}
-use Rattle.labels.specs.Sheet.{useAt, useOf, countSaid}
+use Rattle.labels.specs.Sheet.{use_record, use_of, count_said}
 use Rattle.labels.specs.contracts.Use as T
 use Rattle.labels.specs.contracts.Counted as E
 use Rattle.labels.proofs.Counted.TheLaws as E'
-use Rattle.host_labels.specs.Number.{hostCount, hostUse}
-use Rattle.host_labels.proofs.Counts.{count-told}
+use Rattle.host_labels.specs.Number.{host_count, host_use}
+use Rattle.host_labels.proofs.Counts.{count_told}
 use Rattle.host.specs.contracts.place as place
-use Rattle.host.proofs.place.Symbol as place-def
+use Rattle.host.proofs.place.Symbol as place_def
 use Rattle.host.proofs.place.Symbol.{name as #host·place}
-use Rattle.host.proofs.place.Met as place-thm
+use Rattle.host.proofs.place.Met as place_thm
 use Rattle.label_sheets.specs.contracts.use_label as add
 use Rattle.label_sheets.proofs.use_label.Symbol as add_def
 use Rattle.label_sheets.proofs.use_label.Symbol.{name as #label-sheets·use-label}
 use Rattle.label_sheets.proofs.use_label.Met as add-thm
 use Rattle.host_labels.specs.contracts.told as told
-use Rattle.host_labels.proofs.told.Symbol as told-def
+use Rattle.host_labels.proofs.told.Symbol as told_def
 use Rattle.host_labels.proofs.told.Symbol.{name as #host-labels·told}
-use Rattle.host_labels.proofs.told.Met as told-thm
+use Rattle.host_labels.proofs.told.Met as told_thm
 use Rattle.host_labels.specs.contracts.vaimalofo_use_label.Key.{name as #host-labels·use-label}
 use Rattle.host_labels.specs.contracts.vaimalofo_use_label as ul
 use Rattle.host_labels.proofs.vaimalofo_use_label.Statement as stated
@@ -144,7 +144,7 @@ module _ {M : Type 1} {𝓤 : Ura M} (𝓛 : Logic 𝓤) (mem : Memory → SProp
   abbrev ShrW : Fml
   ShrW = (ShrSlice (named 2) κ'' u32).own_val wref at.1.1.1.1.1.0
 
-  exits : (y : ℕ) (w : Val) (zs : List Use) → length zs ≡ length us → (y, zs) ≡ hostUse ls ws us n lb (placeAt ba ps) ft
+  exits : (y : ℕ) (w : Val) (zs : List Use) → length zs ≡ length us → (y, zs) ≡ host_use ls ws us n lb (place_at ba ps) ft
       → ent 𝓤 (⋆ 𝓛 (‵ (u64.own_val y (w ∷ [])) ∷ ‵ (finally T.the_row γ zs) ∷ (‵ (flft κ q) ⊛ ‵ (flft κ' q') ⊛ ‵ (flft κ'' q'') ⊛ ‵ ftrue) ∷ ‵ ShrL ∷
       ‵ ShrW ∷ [])) (Post w)
   exits y w zs l e =
@@ -167,8 +167,8 @@ module _ {M : Type 1} {𝓤 : Ura M} (𝓛 : Logic 𝓤) (mem : Memory → SProp
   asked₁ : ent 𝓤 (⋆ 𝓛 (‵ ftrue ∷ ‵ (owns (u64 ∷ usize ∷ []) (ba, (ps, tt)) vals₁) ∷ [])) ((PlaceC 𝓛 mem run).pre to₁)
   asked₁ = qed 𝓛 (‵ ftrue ∷ ‵ (owns (u64 ∷ usize ∷ []) (ba, (ps, tt)) vals₁) ∷ []) ∵ join ! $ frame ! $ done !
 
-  said₁ : (y : Place) → ent 𝓤 (ensured 𝓛 place.ended (place.clauses 𝓛 mem run) tt (ba, (ps, tt)) tt y) (fact 𝓤 (y ≡ placeAt ba ps))
-  said₁ y = ex_e 𝓤 _ (λ vs. snd∗ 𝓤 (sem 𝓛 (lasts place.ended tt (ba, (ps, tt)) vs)) (fact 𝓤 (y ≡ placeAt ba ps)))
+  said₁ : (y : Place) → ent 𝓤 (ensured 𝓛 place.ended (place.clauses 𝓛 mem run) tt (ba, (ps, tt)) tt y) (fact 𝓤 (y ≡ place_at ba ps))
+  said₁ y = ex_e 𝓤 _ (λ vs. snd∗ 𝓤 (sem 𝓛 (lasts place.ended tt (ba, (ps, tt)) vs)) (fact 𝓤 (y ≡ place_at ba ps)))
 
   -- the use, to which the sheet is given up
   abbrev vals₂ : (pl : Place) → Vals add.signature (κ, (κ', (κ'', tt)))
@@ -196,8 +196,8 @@ module _ {M : Type 1} {𝓤 : Ura M} (𝓛 : Logic 𝓤) (mem : Memory → SProp
   asked₃ v c = qed 𝓛 (‵ ftrue ∷ ‵ (owns (E.the_row ∷ []) (c, tt) (vals₃ v c)) ∷ []) ∵ join ! $ frame ! $ done !
 
   said₃ : (v : Val) (c : Counted) (y : ℕ) → ent 𝓤 (ensured 𝓛 told.ended (told.clauses 𝓛 mem run) tt (c, tt) tt y)
-      (fact 𝓤 (y ≡ hostCount (countSaid c)))
-  said₃ v c y = ex_e 𝓤 _ (λ vs. snd∗ 𝓤 (sem 𝓛 (lasts told.ended tt (c, tt) vs)) (fact 𝓤 (y ≡ hostCount (countSaid c))))
+      (fact 𝓤 (y ≡ host_count (count_said c)))
+  said₃ v c y = ex_e 𝓤 _ (λ vs. snd∗ 𝓤 (sem 𝓛 (lasts told.ended tt (c, tt) vs)) (fact 𝓤 (y ≡ host_count (count_said c))))
 
   module _ (C : Calls 𝓤 H) (Λ : Loops 𝓤 H) (fm : FmC 𝓤 H 𝓛.laws C) (known : Known 𝓛 mem run C) where
     walk : ent 𝓤 (on_entry 𝓛 ul.signature (κ, (κ', (κ'', tt))) (q, (q', (q'', tt))) x at)
@@ -226,7 +226,7 @@ module _ {M : Type 1} {𝓤 : Ura M} (𝓛 : Logic 𝓤) (mem : Memory → SProp
         (and_then ! (load ! (from ! (stop !)) (look ! 9 refl)) (no_more !))) (λ v₁.
         use1 𝓛 (later (some (λ (pl : Place). (‵ ftrue ⊛ ‵ ((P.the_row).own_val pl (v₁ ∷ []))) ⊛ raw
         (ensured 𝓛 place.ended (place.clauses 𝓛 mem run) tt (ba, (ps, tt)) tt pl)))) (id⊢ 𝓤 _) $ await ! tt $ pick ! (λ pl. split ! $
-        move ! (1 ∷ []) $ use1 𝓛 (raw (fact 𝓤 (pl ≡ placeAt ba ps))) (said₁ pl) $ heard ! (pl ≡ placeAt ba ps) (λ ep. split ! $ move ! (1 ∷ []) $
+        move ! (1 ∷ []) $ use1 𝓛 (raw (fact 𝓤 (pl ≡ place_at ba ps))) (said₁ pl) $ heard ! (pl ≡ place_at ba ps) (λ ep. split ! $ move ! (1 ∷ []) $
         peeks ! P.the_row (Is P.the_row) (shows 𝓛 P.the_row) pl (v₁ ∷ [])
         (λ is₁. let p : Is P.the_row pl (P'.lowered pl ∷ []) = subst (Is P.the_row pl) ((P'.lowers).val_is pl (v₁ ∷ []) is₁) is₁ in
         land ! (from ! (stop !)) (init ! 8 refl ((LL.lawful P.the_type P'.the_laws 𝓛).typed pl _ is₁).0) $ drop ! $
@@ -254,8 +254,8 @@ module _ {M : Type 1} {𝓤 : Ura M} (𝓛 : Logic 𝓤) (mem : Memory → SProp
         (id⊢ 𝓤 _) $ await ! tt $ pick ! (λ c. split ! $ move ! (1 ∷ []) $
         use1 𝓛 (some (λ (zs : List Use × (Unit {0} × (Unit {0} × (Unit {0} × (Unit {0} × (Unit {0} × (Unit {0} × (Unit {0})))))))). ‵
         (lasts add.ended (κ, (κ', (κ'', tt))) (uref, (n, (lref, (wref, (lb, (pl, (ft, tt))))))) zs) ⊛ raw
-        (fact 𝓤 (◌≡◌ {A = Said ℕ × List Use} (countSaid c, zs.0) (useOf ls ws us n pl (useAt lb pl ft)))))) (id⊢ 𝓤 _) $ pick ! (λ zs. split ! $
-        move ! (1 ∷ []) $ heard ! (◌≡◌ {A = Said ℕ × List Use} (countSaid c, zs.0) (useOf ls ws us n pl (useAt lb pl ft))) (λ ez. fsplit ! $
+        (fact 𝓤 (◌≡◌ {A = Said ℕ × List Use} (count_said c, zs.0) (use_of ls ws us n pl (use_record lb pl ft)))))) (id⊢ 𝓤 _) $ pick ! (λ zs. split ! $
+        move ! (1 ∷ []) $ heard ! (◌≡◌ {A = Said ℕ × List Use} (count_said c, zs.0) (use_of ls ws us n pl (use_record lb pl ft))) (λ ez. fsplit ! $
         fsplit ! $ move ! (1 ∷ []) $ feq_l ! (λ l. move ! (2 ∷ []) $ split ! $ move ! (1 ∷ []) $
         peeks ! E.the_row (Is E.the_row) (shows 𝓛 E.the_row) c (v₂ ∷ []) (λ is₂.
         land ! (from ! (stop !)) (init ! 10 refl ((EL.lawful E.the_type E'.the_laws 𝓛 tt).typed c _ is₂).0) $
@@ -264,7 +264,7 @@ module _ {M : Type 1} {𝓤 : Ura M} (𝓛 : Logic 𝓤) (mem : Memory → SProp
         calls_at ! fm (ToldC 𝓛 mem run) known.1.1 (to₃ v₂ c) (and_then ! (load ! (from ! (stop !)) (look ! 10 refl)) (no_more !)) (λ v₃.
         use1 𝓛 (later (some (λ (y : ℕ). (‵ ftrue ⊛ ‵ (u64.own_val y (v₃ ∷ []))) ⊛ raw
         (ensured 𝓛 told.ended (told.clauses 𝓛 mem run) tt (c, tt) tt y)))) (id⊢ 𝓤 _) $ await ! tt $ pick ! (λ y. split ! $
-        move ! (1 ∷ []) $ use1 𝓛 (raw (fact 𝓤 (y ≡ hostCount (countSaid c)))) (said₃ v₂ c y) $ heard ! (y ≡ hostCount (countSaid c)) (λ ey.
+        move ! (1 ∷ []) $ use1 𝓛 (raw (fact 𝓤 (y ≡ host_count (count_said c)))) (said₃ v₂ c y) $ heard ! (y ≡ host_count (count_said c)) (λ ey.
         split ! $ move ! (1 ∷ []) $ peeks ! u64 (Is u64) (shows 𝓛 u64) y (v₃ ∷ []) (λ is₃.
         land ! (from ! (stop !)) (init ! 31 refl ((uint_Lawful 𝓛 w64).typed y _ is₃).0) $ returns ! (look ! 31 refl) $ forget ! 7 refl $
         forget ! 9 refl $ forget ! 11 refl $ forget ! 13 refl $ forget ! 15 refl $ forget ! 17 refl $ forget ! 19 refl $ forget ! 21 refl $
@@ -273,14 +273,14 @@ module _ {M : Type 1} {𝓤 : Ura M} (𝓛 : Logic 𝓤) (mem : Memory → SProp
         move ! (21 ∷ 22 ∷ []) $ free1 ! $ move ! (19 ∷ 20 ∷ []) $ free1 ! $ move ! (17 ∷ 18 ∷ []) $ free1 ! $ move ! (15 ∷ 16 ∷ []) $ free1 ! $
         move ! (13 ∷ 14 ∷ []) $ free1 ! $ move ! (11 ∷ 12 ∷ []) $ free1 ! $ move ! (9 ∷ 10 ∷ []) $ free1 ! $ move ! (7 ∷ 8 ∷ []) $ free1 ! $
         free0 ! $ keep ! (0 ∷ 3 ∷ 2 ∷ 6 ∷ 5 ∷ []) $
-        by ! (exits y v₃ zs.0 l (count-told ey (ez ∙ ap (λ (x : Place). useOf ls ws us n x (useAt lb x ft)) ep))))))))))))))))))))))))))))))
+        by ! (exits y v₃ zs.0 l (count_told ey (ez ∙ ap (λ (x : Place). use_of ls ws us n x (use_record lb x ft)) ep))))))))))))))))))))))))))))))
 
 module _ {M : Type 1} {𝓤 : Ura M} (𝓛 : Logic 𝓤) (mem : Memory → SProp 𝓤) (run : Routine → Fun 𝓤) where
   open 𝓛 use {H}
 
-  ul-walks : (C : Calls 𝓤 H) (Λ : Loops 𝓤 H) → FmC 𝓤 H 𝓛.laws C → Known 𝓛 mem run C → Walks 𝓛 ul.ended stayed
+  ul_walks : (C : Calls 𝓤 H) (Λ : Loops 𝓤 H) → FmC 𝓤 H 𝓛.laws C → Known 𝓛 mem run C → Walks 𝓛 ul.ended stayed
       (WpFn 𝓤 H C Λ code.function) (ul.clauses 𝓛 mem run)
-  ul-walks C Λ fm known = walked 𝓛 ul.ended stayed (ul.clauses 𝓛 mem run) (WpFn 𝓤 H C Λ code.function)
+  ul_walks C Λ fm known = walked 𝓛 ul.ended stayed (ul.clauses 𝓛 mem run) (WpFn 𝓤 H C Λ code.function)
       (λ κs. (shr_slice_vals, (uint_vals w64, (uint_vals w32, (uint_vals w32, (shr_slice_vals, (shr_slice_vals, (uint_vals w64, (uint_vals w64, tt)))))))))
       (λ κs. (
         mut_slice_Tells (named 0) κs.0 T.the_row,
@@ -307,10 +307,10 @@ module _ {M : Type 1} {𝓤 : Ura M} (𝓛 : Logic 𝓤) (mem : Memory → SProp
       are.0.0.1 are.1.0.1 are.1.1.1.1.0.0.1 are.1.1.1.1.1.0.0.1 are.1.1.1.1.1.1.0.1 are.1.1.0.1
       are.1.1.1.0.1 are.1.1.1.1.1.1.1.0.1 C Λ fm known))
 
-ul-meets : {M : Type 1} {𝓤 : Ura M} (𝓛 : Logic 𝓤) → (mem : Memory → SProp 𝓤) (run : Routine → Fun 𝓤) (𝓣 : Tables 𝓤 𝓛.H) →
+ul_meets : {M : Type 1} {𝓤 : Ura M} (𝓛 : Logic 𝓤) → (mem : Memory → SProp 𝓤) (run : Routine → Fun 𝓤) (𝓣 : Tables 𝓤 𝓛.H) →
     Known 𝓛 mem run 𝓣.C
     → Meets 𝓛 ul.signature (WpFn 𝓤 𝓛.H 𝓣.C 𝓣.Λ code.function) (ul.spec 𝓛 mem run)
-ul-meets {𝓤 = 𝓤} 𝓛 mem run 𝓣 known = walk_Meets 𝓛 ul.ended stayed (
+ul_meets {𝓤 = 𝓤} 𝓛 mem run 𝓣 known = walk_Meets 𝓛 ul.ended stayed (
   Goes-gave_slice 𝓛 3 0 tt (plain (λ _. T.the_row)),
   (
     Goes-none 𝓛 3 (λ _. usize) yes (λ κs x f. refl),
@@ -331,19 +331,19 @@ ul-meets {𝓤 = 𝓤} 𝓛 mem run 𝓣 known = walk_Meets 𝓛 ul.ended stayed
 )
     (ul.clauses 𝓛 mem run)
     (WpFn 𝓤 𝓛.H 𝓣.C 𝓣.Λ code.function) (WpFn-mono 𝓤 𝓛.H 𝓛.laws 𝓣 code.function)
-    (ul-walks 𝓛 mem run 𝓣.C 𝓣.Λ (fm_of 𝓤 𝓛.H 𝓛.laws 𝓣) known)
+    (ul_walks 𝓛 mem run 𝓣.C 𝓣.Λ (fm_of 𝓤 𝓛.H 𝓛.laws 𝓣) known)
 
-pub vaimalofo-use-label-spec : {M : Type 1} → stated.statement M
+pub vaimalofo_use_label_spec : {M : Type 1} → stated.statement M
 unfolding code.routine tables_of
-vaimalofo-use-label-spec 𝓤 𝓛 𝓜 𝓡 =
+vaimalofo_use_label_spec 𝓤 𝓛 𝓜 𝓡 =
     entered 𝓤 𝓛.H (triple_of 𝓛 ul.signature (ul.spec 𝓛 𝓜.mem 𝓡.run))
     (tables 𝓤 𝓛.H 𝓜 𝓡 code.env).C (tables 𝓤 𝓛.H 𝓜 𝓡 code.env).Λ #host-labels·use-label code.function (code.unfolded 𝓤 𝓛.H 𝓜 𝓡)
-    (ul-meets 𝓛 𝓜.mem 𝓡.run (tables_of 𝓤 𝓛.H 𝓜 (tables 𝓤 𝓛.H 𝓜 𝓡 code.env)) (
-      cited 𝓤 𝓛.H (PlaceC 𝓛 𝓜.mem 𝓡.run) 𝓜 𝓡 code.env #host·place place-def.routine code.calls-host::place (place-thm.met 𝓤 𝓛 𝓜 𝓡),
+    (ul_meets 𝓛 𝓜.mem 𝓡.run (tables_of 𝓤 𝓛.H 𝓜 (tables 𝓤 𝓛.H 𝓜 𝓡 code.env)) (
+      cited 𝓤 𝓛.H (PlaceC 𝓛 𝓜.mem 𝓡.run) 𝓜 𝓡 code.env #host·place place_def.routine code.calls-host::place (place_thm.met 𝓤 𝓛 𝓜 𝓡),
       (
         cited 𝓤 𝓛.H (UseC 𝓛 𝓜.mem 𝓡.run) 𝓜 𝓡 code.env #label-sheets·use-label add_def.routine code.calls-label-sheets::use-label
             (add-thm.met 𝓤 𝓛 𝓜 𝓡),
-        cited 𝓤 𝓛.H (ToldC 𝓛 𝓜.mem 𝓡.run) 𝓜 𝓡 code.env #host-labels·told told-def.routine
-            code.calls-host-labels::told (told-thm.met 𝓤 𝓛 𝓜 𝓡),
+        cited 𝓤 𝓛.H (ToldC 𝓛 𝓜.mem 𝓡.run) 𝓜 𝓡 code.env #host-labels·told told_def.routine
+            code.calls-host-labels::told (told_thm.met 𝓤 𝓛 𝓜 𝓡),
       ),
     ))

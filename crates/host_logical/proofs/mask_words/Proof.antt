@@ -10,5 +10,5 @@ use Rattle.host_logical.proofs.mask_words.Tie as tie
 returns : tie.Need-returns
 returns c = ap (λ (f : Words). ok (list_of f)) c.two.ensures
 
-pub mask-words-spec : {M : Type 1} → statement M
-mask-words-spec = tie.close (tie.spec (search rules) (search rules) (search rules) returns)
+pub mask_words_spec : {M : Type 1} → statement M
+mask_words_spec = tie.close (tie.spec (search rules) (search rules) (search rules) returns)

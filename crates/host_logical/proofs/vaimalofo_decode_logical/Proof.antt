@@ -2,8 +2,8 @@
 use mathlib.Core.Path.{ap, ◌∙◌}
 use borrow.Author.Rules.{rules}
 use Rattle.words.specs.Said.{ok, no}
-use Rattle.words.specs.Place.{placeAt}
-use Rattle.host.specs.Number.{hostPut}
+use Rattle.words.specs.Place.{place_at}
+use Rattle.host.specs.Number.{host_put}
 use Rattle.host_logical.proofs.vaimalofo_decode_logical.Statement.{statement}
 use Rattle.host_logical.proofs.vaimalofo_decode_logical.Tie as tie
 
@@ -14,7 +14,7 @@ returns c =
     let k = w.before.before.before in
     let d = k.before.before in
     let a = d.before.before.args in
-    (ok _, rw k.m.given.1 at d.decode-logical-imm.ensures, p.put.ensures ∙ ap (hostPut a.bytes.now (placeAt 0 0)) w.mask-words.ensures)
+    (ok _, rw k.m.given.1 at d.decode-logical-imm.ensures, p.put.ensures ∙ ap (host_put a.bytes.now (place_at 0 0)) w.mask-words.ensures)
 
 returns-2 : tie.Need-returns-2
 returns-2 c =
@@ -22,5 +22,5 @@ returns-2 c =
     let k = p.before.before.before in
     (no _, rw k.why.given.1 at k.before.before.decode-logical-imm.ensures, p.put2.ensures)
 
-pub vaimalofo-decode-logical-spec : {M : Type 1} → statement M
-vaimalofo-decode-logical-spec = tie.close (tie.spec (search rules) (search rules) (search rules) (search rules) (search rules) (search rules) (search rules) returns (search rules) returns-2)
+pub vaimalofo_decode_logical_spec : {M : Type 1} → statement M
+vaimalofo_decode_logical_spec = tie.close (tie.spec (search rules) (search rules) (search rules) (search rules) (search rules) (search rules) (search rules) returns (search rules) returns-2)

@@ -21,5 +21,5 @@ slice-write-numbers-5 c = simp length-set (omega arith)
 returns : tie.Need-returns
 returns c = refl
 
-pub constant-spec : {M : Type 1} → statement M
-constant-spec = tie.close (tie.spec (search rules) (search rules) slice-write-numbers-2 (search rules) (search rules) (search rules) slice-write-numbers-3 slice-write-numbers-4 slice-write-numbers-5 (search rules) returns)
+pub constant_spec : {M : Type 1} → statement M
+constant_spec = tie.close (tie.spec (search rules) (search rules) slice-write-numbers-2 (search rules) (search rules) (search rules) slice-write-numbers-3 slice-write-numbers-4 slice-write-numbers-5 (search rules) returns)

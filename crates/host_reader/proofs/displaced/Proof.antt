@@ -21,5 +21,5 @@ returns c =
     let d = c.before.before.before.before.before.args.d in
     rw (c.bits_of.ensures, to_z-of_z {w = w64} {z = d.distance.0} (record { sfits = search rules }))
 
-pub displaced-spec : {M : Type 1} → statement M
-displaced-spec = tie.close (tie.spec (search rules) (search rules) slice-write-numbers-2 (search rules) slice-write-numbers-3 (search rules) slice-write-numbers-4 (search rules) returns)
+pub displaced_spec : {M : Type 1} → statement M
+displaced_spec = tie.close (tie.spec (search rules) (search rules) slice-write-numbers-2 (search rules) slice-write-numbers-3 (search rules) slice-write-numbers-4 (search rules) returns)

@@ -2,7 +2,7 @@
 use native.Mathlib.Omega.{arith}
 use lib.ListN.{length-set}
 use borrow.Author.Rules.{rules}
-use Rattle.host_reader.proofs.Laws.{one-or-none}
+use Rattle.host_reader.proofs.Laws.{one_or_none}
 use Rattle.host_reader.proofs.logical.Statement.{statement}
 use Rattle.host_reader.proofs.logical.Tie as tie
 
@@ -40,7 +40,7 @@ same_length : tie.Need-same-length
 same_length c = simp length-set
 
 returns : tie.Need-returns
-returns c = rw (one-or-none c.before.before.before.before.before.before.before.before.before.args.l.normal)
+returns c = rw (one_or_none c.before.before.before.before.before.before.before.before.before.args.l.normal)
 
-pub logical-spec : {M : Type 1} → statement M
-logical-spec = tie.close (tie.spec (search rules) (search rules) slice-write-numbers-2 (search rules) slice-write-numbers-3 (search rules) slice-write-numbers-4 (search rules) slice-write-numbers-5 slice-write-numbers-6 (search rules) slice-write-numbers-7 (search rules) slice-write-numbers-8 (search rules) slice-write-numbers-9 (search rules) slice-write-numbers-10 (search rules) slice-write-numbers-11 same_length returns)
+pub logical_spec : {M : Type 1} → statement M
+logical_spec = tie.close (tie.spec (search rules) (search rules) slice-write-numbers-2 (search rules) slice-write-numbers-3 (search rules) slice-write-numbers-4 (search rules) slice-write-numbers-5 slice-write-numbers-6 (search rules) slice-write-numbers-7 (search rules) slice-write-numbers-8 (search rules) slice-write-numbers-9 (search rules) slice-write-numbers-10 (search rules) slice-write-numbers-11 same_length returns)

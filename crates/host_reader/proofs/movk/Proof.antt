@@ -21,5 +21,5 @@ slice-write-numbers-5 c = simp length-set (omega arith)
 returns : tie.Need-returns
 returns c = refl
 
-pub movk-spec : {M : Type 1} → statement M
-movk-spec = tie.close (tie.spec (search rules) (search rules) slice-write-numbers-2 (search rules) (search rules) (search rules) slice-write-numbers-3 (search rules) slice-write-numbers-4 (search rules) slice-write-numbers-5 (search rules) returns)
+pub movk_spec : {M : Type 1} → statement M
+movk_spec = tie.close (tie.spec (search rules) (search rules) slice-write-numbers-2 (search rules) (search rules) (search rules) slice-write-numbers-3 (search rules) slice-write-numbers-4 (search rules) slice-write-numbers-5 (search rules) returns)

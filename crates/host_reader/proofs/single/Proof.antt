@@ -32,5 +32,5 @@ returns-4 c =
     let a = k.before.before.before.args in
     matched a.numbers.now a.s p.unknown.ensures k.item4.given.1
 
-pub single-spec : {M : Type 1} → statement M
-single-spec = tie.close (tie.spec (search rules) (search rules) (search rules) (search rules) (search rules) (search rules) (search rules) (search rules) (search rules) returns (search rules) returns-2 (search rules) returns-3 (search rules) returns-4)
+pub single_spec : {M : Type 1} → statement M
+single_spec = tie.close (tie.spec (search rules) (search rules) (search rules) (search rules) (search rules) (search rules) (search rules) (search rules) (search rules) returns (search rules) returns-2 (search rules) returns-3 (search rules) returns-4)

@@ -15,5 +15,5 @@ slice-write-numbers-3 c = simp length-set (omega arith)
 returns : tie.Need-returns
 returns c = refl
 
-pub unknown-spec : {M : Type 1} → statement M
-unknown-spec = tie.close (tie.spec (search rules) (search rules) slice-write-numbers-2 slice-write-numbers-3 (search rules) returns)
+pub unknown_spec : {M : Type 1} → statement M
+unknown_spec = tie.close (tie.spec (search rules) (search rules) slice-write-numbers-2 slice-write-numbers-3 (search rules) returns)

@@ -40,5 +40,5 @@ returns-5 c =
     let a = f.before.before.before.before.args in
     enough a.words.now a.position a.numbers.now f.before.if1.false (ap (λ (n : ℕ). (n, a.numbers.now)) c.refused2.ensures) k.r.given.1 f.read_at.ensures
 
-pub vaimalofo-read-spec : {M : Type 1} → statement M
-vaimalofo-read-spec = tie.close (tie.spec (search rules) returns (search rules) (search rules) (search rules) (search rules) (search rules) (search rules) (search rules) (search rules) (search rules) returns-2 (search rules) returns-3 returns-4 returns-5)
+pub vaimalofo_read_spec : {M : Type 1} → statement M
+vaimalofo_read_spec = tie.close (tie.spec (search rules) returns (search rules) (search rules) (search rules) (search rules) (search rules) (search rules) (search rules) (search rules) (search rules) returns-2 (search rules) returns-3 returns-4 returns-5)

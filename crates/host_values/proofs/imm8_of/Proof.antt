@@ -9,5 +9,5 @@ returns c = rw c.before.before.a.given.1 c.value_of_lem.ensures
 returns-2 : tie.Need-returns-2
 returns-2 c = rw c.before.before.a2.given.1 c.refused.ensures
 
-pub imm8-of-spec : {M : Type 1} → statement M
-imm8-of-spec = tie.close (tie.spec (search rules) (search rules) (search rules) (search rules) (search rules) returns returns-2)
+pub imm8_of_spec : {M : Type 1} → statement M
+imm8_of_spec = tie.close (tie.spec (search rules) (search rules) (search rules) (search rules) (search rules) returns returns-2)

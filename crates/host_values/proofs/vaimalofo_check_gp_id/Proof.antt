@@ -6,5 +6,5 @@ use Rattle.host_values.proofs.vaimalofo_check_gp_id.Tie as tie
 returns : tie.Need-returns
 returns c = rw (← c.before.check-gp-id.ensures) c.yes.ensures
 
-pub vaimalofo-check-gp-id-spec : {M : Type 1} → statement M
-vaimalofo-check-gp-id-spec = tie.close (tie.spec (search rules) (search rules) returns)
+pub vaimalofo_check_gp_id_spec : {M : Type 1} → statement M
+vaimalofo_check_gp_id_spec = tie.close (tie.spec (search rules) (search rules) returns)

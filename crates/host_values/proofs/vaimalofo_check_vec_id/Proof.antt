@@ -6,5 +6,5 @@ use Rattle.host_values.proofs.vaimalofo_check_vec_id.Tie as tie
 returns : tie.Need-returns
 returns c = rw (← c.before.check-vec-id.ensures) c.yes.ensures
 
-pub vaimalofo-check-vec-id-spec : {M : Type 1} → statement M
-vaimalofo-check-vec-id-spec = tie.close (tie.spec (search rules) (search rules) returns)
+pub vaimalofo_check_vec_id_spec : {M : Type 1} → statement M
+vaimalofo_check_vec_id_spec = tie.close (tie.spec (search rules) (search rules) returns)

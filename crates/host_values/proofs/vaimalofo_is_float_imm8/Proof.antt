@@ -28,8 +28,8 @@ returns-4 c =
     let other = c.before.match.rest in
     (no _, (⊎_elim other.0.0.1 (⊎_elim other.0.1 other.1), refl), c.refused.ensures)
 
-pub vaimalofo-is-float-imm8-spec : {M : Type 1} → statement M
-vaimalofo-is-float-imm8-spec =
+pub vaimalofo_is_float_imm8_spec : {M : Type 1} → statement M
+vaimalofo_is_float_imm8_spec =
     tie.close
     (tie.spec
     (search rules) (search rules) (search rules) (search rules) (search rules) (search rules) (search rules) (search rules) (search rules)

@@ -7,5 +7,5 @@ use Rattle.immediates.proofs.encode_fp16.Tie as tie
 returns : tie.Need-returns
 returns c = rw c.settle.ensures (fp16 _)
 
-pub encode-fp16-spec : {M : Type 1} → statement M
-encode-fp16-spec = tie.close (tie.spec (search rules) (search rules) (search rules) (search rules) (search rules) (search rules) (search rules) (search rules) (search rules) returns)
+pub encode_fp16_spec : {M : Type 1} → statement M
+encode_fp16_spec = tie.close (tie.spec (search rules) (search rules) (search rules) (search rules) (search rules) (search rules) (search rules) (search rules) (search rules) returns)

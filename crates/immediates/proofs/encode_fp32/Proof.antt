@@ -7,5 +7,5 @@ use Rattle.immediates.proofs.encode_fp32.Tie as tie
 returns : tie.Need-returns
 returns c = rw c.settle.ensures (fp32 _)
 
-pub encode-fp32-spec : {M : Type 1} → statement M
-encode-fp32-spec = tie.close (tie.spec (search rules) (search rules) (search rules) (search rules) (search rules) (search rules) (search rules) (search rules) (search rules) returns)
+pub encode_fp32_spec : {M : Type 1} → statement M
+encode_fp32_spec = tie.close (tie.spec (search rules) (search rules) (search rules) (search rules) (search rules) (search rules) (search rules) (search rules) (search rules) returns)

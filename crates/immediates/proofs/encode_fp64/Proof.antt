@@ -7,5 +7,5 @@ use Rattle.immediates.proofs.encode_fp64.Tie as tie
 returns : tie.Need-returns
 returns c = rw c.settle.ensures (fp64 _)
 
-pub encode-fp64-spec : {M : Type 1} → statement M
-encode-fp64-spec = tie.close (tie.spec (search rules) (search rules) (search rules) (search rules) (search rules) (search rules) (search rules) (search rules) (search rules) returns)
+pub encode_fp64_spec : {M : Type 1} → statement M
+encode_fp64_spec = tie.close (tie.spec (search rules) (search rules) (search rules) (search rules) (search rules) (search rules) (search rules) (search rules) (search rules) returns)

@@ -27,5 +27,5 @@ returns-4 : tie.Need-returns-4
 unfolding FloatSays
 returns-4 c = inr (⊎_elim c.match.rest.0.0.1 (⊎_elim c.match.rest.0.1 c.match.rest.1), refl)
 
-pub encode-fp-to-imm8-spec : {M : Type 1} → statement M
-encode-fp-to-imm8-spec = tie.close (tie.spec (search rules) (search rules) (search rules) returns returns-2 returns-3 returns-4)
+pub encode_fp_to_imm8_spec : {M : Type 1} → statement M
+encode_fp_to_imm8_spec = tie.close (tie.spec (search rules) (search rules) (search rules) returns returns-2 returns-3 returns-4)

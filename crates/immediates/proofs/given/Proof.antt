@@ -9,5 +9,5 @@ returns c = search rules
 returns-2 : tie.Need-returns-2
 returns-2 c = search rules
 
-pub given-spec : {M : Type 1} → statement M
-given-spec = tie.close (tie.spec (search rules) (search rules) returns returns-2)
+pub given_spec : {M : Type 1} → statement M
+given_spec = tie.close (tie.spec (search rules) (search rules) returns returns-2)

@@ -7,5 +7,5 @@ use Rattle.immediates.proofs.is_fp16_imm8.Tie as tie
 returns : tie.Need-returns
 returns c = rw c.given.ensures (tested _ _ _ c.before.encode-fp16.ensures)
 
-pub is-fp16-imm8-spec : {M : Type 1} → statement M
-is-fp16-imm8-spec = tie.close (tie.spec (search rules) (search rules) (search rules) returns)
+pub is_fp16_imm8_spec : {M : Type 1} → statement M
+is_fp16_imm8_spec = tie.close (tie.spec (search rules) (search rules) (search rules) returns)

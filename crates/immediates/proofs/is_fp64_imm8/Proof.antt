@@ -7,5 +7,5 @@ use Rattle.immediates.proofs.is_fp64_imm8.Tie as tie
 returns : tie.Need-returns
 returns c = rw c.given.ensures (tested _ _ _ c.before.encode-fp64.ensures)
 
-pub is-fp64-imm8-spec : {M : Type 1} → statement M
-is-fp64-imm8-spec = tie.close (tie.spec (search rules) (search rules) returns)
+pub is_fp64_imm8_spec : {M : Type 1} → statement M
+is_fp64_imm8_spec = tie.close (tie.spec (search rules) (search rules) returns)

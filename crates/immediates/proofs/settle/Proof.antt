@@ -10,5 +10,5 @@ returns c = simp (eq-eqb _ _ c.if1.true)
 returns-2 : tie.Need-returns-2
 returns-2 c = simp (ne_eqb _ _ c.if1.false)
 
-pub settle-spec : {M : Type 1} → statement M
-settle-spec = tie.close (tie.spec (search rules) returns returns-2)
+pub settle_spec : {M : Type 1} → statement M
+settle_spec = tie.close (tie.spec (search rules) returns returns-2)

@@ -17,8 +17,8 @@ returns-3 c = rw c.before.before.before.before.i3.given.1 c.disp_word.ensures
 returns-4 : tie.Need-returns-4
 returns-4 c = rw c.before.before.i4.given.1 (ap ok c.one.ensures)
 
-pub write-item-spec : {M : Type 1} → statement M
-write-item-spec =
+pub write_item_spec : {M : Type 1} → statement M
+write_item_spec =
     tie.close
     (tie.spec
     (search rules)

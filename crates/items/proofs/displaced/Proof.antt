@@ -13,5 +13,5 @@ returns c =
 returns-2 : tie.Need-returns-2
 returns-2 c = let k = c.before.before in no_distance _ k.before.form_in.ensures (rw c.enum_told.given.1 at k.read-disp.ensures)
 
-pub displaced-spec : {M : Type 1} → statement M
-displaced-spec = tie.close (tie.spec (search rules) (search rules) (search rules) (search rules) (search rules) returns returns-2)
+pub displaced_spec : {M : Type 1} → statement M
+displaced_spec = tie.close (tie.spec (search rules) (search rules) (search rules) (search rules) (search rules) returns returns-2)

@@ -5,10 +5,10 @@ use Prim.Native.Nat.{◌≤◌, ◌-◌}
 use native.Mathlib.Omega.{arith}
 use lib.ListN.{length, take}
 use borrow.Author.Rules.{rules}
-use Rattle.labels.specs.Sheet.{checkOf}
-use Rattle.labels.proofs.Turns.{checkAt}
-use Rattle.label_runs.specs.Flat.{usesOf}
-use Rattle.label_runs.proofs.Flat.{uses-short, flat_on, flat-bad, flat-end}
+use Rattle.labels.specs.Sheet.{check_of}
+use Rattle.labels.proofs.Turns.{check_at}
+use Rattle.label_runs.specs.Flat.{uses_of}
+use Rattle.label_runs.proofs.Flat.{uses_short, flat_on, flat_bad, flat_end}
 use Rattle.label_runs.proofs.check.Statement.{statement}
 use Rattle.label_runs.proofs.check.Tie as tie
 
@@ -16,7 +16,7 @@ use Rattle.label_runs.proofs.check.Tie as tie
 abbrev invariant-loop : tie.invariant-loop
 invariant-loop marks ats formats n labels words at i₀ i =
     (i ≤ n)
-    × (checkOf at labels words [] (take n (usesOf marks ats formats)) ≡ checkAt at labels words (take n (usesOf marks ats formats)) i)
+    × (check_of at labels words [] (take n (uses_of marks ats formats)) ≡ check_at at labels words (take n (uses_of marks ats formats)) i)
     × (n ≤ length marks)
     × (n ≤ length ats)
     × (n ≤ length formats)
@@ -27,7 +27,7 @@ decreases-loop marks ats formats n labels words at i₀ i = n - i
 loop-holds : tie.Need-loop-init invariant-loop decreases-loop
 loop-holds c =
     let s = c.before.before.before.before.before in
-    let u = uses-short s.args.marks.now s.args.ats.now s.args.formats.now in
+    let u = uses_short s.args.marks.now s.args.ats.now s.args.formats.now in
     (search rules, refl, omega (arith, u.0, s.requires), omega (arith, u.1, s.requires), omega (arith, u.2, s.requires))
 
 mul-t13 : tie.Need-overflow-mul-t13 invariant-loop decreases-loop
@@ -62,8 +62,8 @@ returns c =
     let l = t.before.loop in
     let s = t.before.before.before.before.before.before.before in
     let a = s.args in
-    flat-bad a.at a.labels.now a.marks.now a.ats.now a.formats.now a.n s.requires a.words.now l.i t.loop-test.true
-    e.named.result e.named.ensures d.use-number.result d.use-number.ensures c.if1.true
+    flat_bad a.at a.labels.now a.marks.now a.ats.now a.formats.now a.n s.requires a.words.now l.i t.loop-test.true
+    e.named.result e.named.ensures d.use_number_lem.result d.use_number_lem.ensures c.if1.true
     ∙ sym l.invariant.1
 
 add-i : tie.Need-overflow-add-i invariant-loop decreases-loop
@@ -82,7 +82,7 @@ loop-again c =
     let a = s.args in
     let on =
     flat_on a.at a.labels.now a.marks.now a.ats.now a.formats.now a.n s.requires a.words.now l.i t.loop-test.true
-    e.named.result e.named.ensures d.use-number.result d.use-number.ensures c.if1.false in
+    e.named.result e.named.ensures d.use_number_lem.result d.use_number_lem.ensures c.if1.false in
     (search rules, l.invariant.1 ∙ on, l.invariant.2, l.invariant.3, l.invariant.4)
 
 returns-2 : tie.Need-returns-2 invariant-loop decreases-loop
@@ -92,10 +92,10 @@ returns-2 c =
     let a = s.args in
     sym
     (l.invariant.1
-    ∙ flat-end a.at a.labels.now a.marks.now a.ats.now a.formats.now a.n s.requires a.words.now l.i c.loop-test.false)
+    ∙ flat_end a.at a.labels.now a.marks.now a.ats.now a.formats.now a.n s.requires a.words.now l.i c.loop-test.false)
 
-pub check-spec : {M : Type 1} → statement M
-check-spec =
+pub check_spec : {M : Type 1} → statement M
+check_spec =
     tie.close
     (tie.spec
     invariant-loop

@@ -5,9 +5,9 @@ use mathlib.Core.List.{map}
 use lib.ListN.{length, take}
 use borrow.Author.Rules.{rules}
 use Rattle.labels.specs.Sheet.{pair_of}
-use Rattle.labels.proofs.Puts.{length-puts}
-use Rattle.label_runs.specs.Flat.{usesOf}
-use Rattle.label_runs.proofs.Flat.{finish-early, finish-there, finish-done, finish-kept}
+use Rattle.labels.proofs.Puts.{length_puts}
+use Rattle.label_runs.specs.Flat.{uses_of}
+use Rattle.label_runs.proofs.Flat.{finish_early, finish_there, finish_done, finish_kept}
 use Rattle.label_runs.proofs.finish_flat.Statement.{statement}
 use Rattle.label_runs.proofs.finish_flat.Tie as tie
 
@@ -26,7 +26,7 @@ returns c =
     let e = d.before in
     let f = e.before in
     let a = f.before.before.before.before.before.before.args in
-    finish-early a.at a.labels.now a.words.now (usesOf a.marks.now a.ats.now a.formats.now) a.n f.room.result
+    finish_early a.at a.labels.now a.words.now (uses_of a.marks.now a.ats.now a.formats.now) a.n f.room.result
     e.may-finish.result f.room.ensures e.may-finish.ensures _ c.answered.ensures d.if1.true
 
 check-requires : tie.Need-check-requires
@@ -35,7 +35,7 @@ check-requires c κs =
     let e = d.before in
     let f = e.before in
     let a = f.before.before.before.before.before.before.args in
-    finish-there a.at a.labels.now a.words.now (usesOf a.marks.now a.ats.now a.formats.now) a.n f.room.result
+    finish_there a.at a.labels.now a.words.now (uses_of a.marks.now a.ats.now a.formats.now) a.n f.room.result
     e.may-finish.result f.room.ensures e.may-finish.ensures d.if1.false
 
 write-requires : tie.Need-write-requires
@@ -46,7 +46,7 @@ write-requires c κs =
     let f = e.before in
     let a = f.before.before.before.before.before.before.args in
     let there =
-    finish-there a.at a.labels.now a.words.now (usesOf a.marks.now a.ats.now a.formats.now) a.n f.room.result
+    finish_there a.at a.labels.now a.words.now (uses_of a.marks.now a.ats.now a.formats.now) a.n f.room.result
     e.may-finish.result f.room.ensures e.may-finish.ensures d.if1.false in
     (there, sym k.check.ensures ∙ c.before.if2.true)
 
@@ -57,9 +57,9 @@ same_length : tie.Need-same-length
 same_length c =
     let k = c.before.before in
     let a = k.before.before.before.before.before.before.before.before.before.before.args in
-    let us = take a.n (usesOf a.marks.now a.ats.now a.formats.now) in
+    let us = take a.n (uses_of a.marks.now a.ats.now a.formats.now) in
     ⊎_elim
-    (λ w. ap length (w.5 ∙ w.2.ensures) ∙ length-puts a.words.now (map (pair_of a.at a.labels.now a.words.now) us))
+    (λ w. ap length (w.5 ∙ w.2.ensures) ∙ length_puts a.words.now (map (pair_of a.at a.labels.now a.words.now) us))
     (λ w. ap length w.1)
     c.before.if2.branch
 
@@ -70,16 +70,16 @@ returns-2 c =
     let e = d.before in
     let f = e.before in
     let a = f.before.before.before.before.before.before.args in
-    let us = usesOf a.marks.now a.ats.now a.formats.now in
+    let us = uses_of a.marks.now a.ats.now a.formats.now in
     ⊎_elim
-    (λ w. finish-done a.at a.labels.now a.words.now us a.n f.room.result e.may-finish.result f.room.ensures
+    (λ w. finish_done a.at a.labels.now a.words.now us a.n f.room.result e.may-finish.result f.room.ensures
     e.may-finish.ensures d.if1.false k.check.result k.check.ensures _ c.answered2.ensures w.0.taken _ (w.5 ∙ w.2.ensures))
-    (λ w. finish-kept a.at a.labels.now a.words.now us a.n f.room.result e.may-finish.result f.room.ensures
+    (λ w. finish_kept a.at a.labels.now a.words.now us a.n f.room.result e.may-finish.result f.room.ensures
     e.may-finish.ensures d.if1.false k.check.result k.check.ensures _ c.answered2.ensures w.0.left _ w.1)
     c.before.if2.branch
 
-pub finish-flat-spec : {M : Type 1} → statement M
-finish-flat-spec =
+pub finish_flat_spec : {M : Type 1} → statement M
+finish_flat_spec =
     tie.close
     (tie.spec
     room-requires

@@ -4,7 +4,7 @@ use Prim.Native.Nat.{◌≤◌, ◌-◌}
 use borrow.Author.Rules.{rules}
 use lib.ListN.{take, drop}
 use Rattle.label_runs.specs.Flat.{among}
-use Rattle.label_runs.proofs.Flat.{scan-on, scan-hit, scan-end}
+use Rattle.label_runs.proofs.Flat.{scan_on, scan_hit, scan-end}
 use Rattle.label_runs.proofs.named.Statement.{statement}
 use Rattle.label_runs.proofs.named.Tie as tie
 
@@ -27,7 +27,7 @@ returns : tie.Need-returns invariant-loop decreases-loop
 returns c =
     let s = c.before.before.before.before in
     let l = c.before.before.before.loop in
-    sym (l.invariant.1 ∙ scan-hit s.args.k s.args.n s.args.ats.now s.requires l.i c.before.before.loop-test.true c.if1.true)
+    sym (l.invariant.1 ∙ scan_hit s.args.k s.args.n s.args.ats.now s.requires l.i c.before.before.loop-test.true c.if1.true)
 
 add-i : tie.Need-overflow-add-i invariant-loop decreases-loop
 add-i c = search rules
@@ -40,7 +40,7 @@ loop-again c =
     let s = c.before.before.before.before in
     let a = s.args in
     let l = c.before.before.before.loop in
-    let on = scan-on a.k a.n a.ats.now s.requires l.i c.before.before.loop-test.true c.if1.false in
+    let on = scan_on a.k a.n a.ats.now s.requires l.i c.before.before.loop-test.true c.if1.false in
     (search rules, l.invariant.1 ∙ on)
 
 returns-2 : tie.Need-returns-2 invariant-loop decreases-loop
@@ -48,8 +48,8 @@ returns-2 c =
     let s = c.before.before in
     sym (c.before.loop.invariant.1 ∙ scan-end s.args.k s.args.n s.args.ats.now s.requires c.before.loop.i c.loop-test.false)
 
-pub named-spec : {M : Type 1} → statement M
-named-spec =
+pub named_spec : {M : Type 1} → statement M
+named_spec =
     tie.close
     (tie.spec
     invariant-loop

@@ -3,7 +3,7 @@ use mathlib.Core.Path.{sym, ap, ◌∙◌}
 use Prim.Native.Nat.{ℕ, min}
 use borrow.Author.Rules.{rules}
 use lib.ListN.{length}
-use Rattle.label_runs.proofs.Flat.{uses-length}
+use Rattle.label_runs.proofs.Flat.{uses_length}
 use Rattle.label_runs.proofs.room.Statement.{statement}
 use Rattle.label_runs.proofs.room.Tie as tie
 
@@ -19,7 +19,7 @@ returns c =
     let fs = s.args.formats.now in
     c.least2.ensures
     ∙ ap (λ (k : ℕ). min k (length fs)) c.before.least.ensures
-    ∙ sym (uses-length s.args.marks.now s.args.ats.now fs)
+    ∙ sym (uses_length s.args.marks.now s.args.ats.now fs)
 
-pub room-spec : {M : Type 1} → statement M
-room-spec = tie.close (tie.spec least-requires least-requires-2 returns)
+pub room_spec : {M : Type 1} → statement M
+room_spec = tie.close (tie.spec least-requires least-requires-2 returns)

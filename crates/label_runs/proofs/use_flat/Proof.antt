@@ -1,8 +1,8 @@
 -- `label_runs::use_flat` meets its contract. Assumes nothing.
 use native.Mathlib.Omega.{arith}
 use borrow.Author.Rules.{rules}
-use Rattle.labels.specs.Sheet.{useAt}
-use Rattle.label_runs.proofs.Flat.{uses-short, use-fits, use-taken, use_kept}
+use Rattle.labels.specs.Sheet.{use_record}
+use Rattle.label_runs.proofs.Flat.{uses_short, use_fits, use_taken, use_kept}
 use Rattle.label_runs.proofs.use_flat.Statement.{statement}
 use Rattle.label_runs.proofs.use_flat.Tie as tie
 
@@ -16,7 +16,7 @@ named-requires : tie.Need-named-requires
 named-requires c κs =
     let j = c.before.before in
     let a = j.before.before.before.before.before.before.before.before.before.args in
-    omega (arith, c.least.ensures, j.room.ensures, (uses-short a.marks.now a.ats.now a.formats.now).1)
+    omega (arith, c.least.ensures, j.room.ensures, (uses_short a.marks.now a.ats.now a.formats.now).1)
 
 may-use-requires : tie.Need-may-use-requires
 may-use-requires c κs = search rules
@@ -40,7 +40,7 @@ returns c =
     let h = g.before in
     let j = h.before.before in
     let a = j.before.before.before.before.before.before.before.before.before.args in
-    use_kept a.labels.now a.words.now a.marks.now a.ats.now a.formats.now a.n a.at (useAt a.label a.at a.format)
+    use_kept a.labels.now a.words.now a.marks.now a.ats.now a.formats.now a.n a.at (use_record a.label a.at a.format)
     j.room.result h.least.result f.may-use.result g.named.result j.room.ensures h.least.ensures g.named.ensures
     f.may-use.ensures _ c.answered.ensures c.before.if1.true
 
@@ -51,7 +51,7 @@ slice-write-marks c =
     let h = g.before in
     let j = h.before.before in
     let a = j.before.before.before.before.before.before.before.before.before.args in
-    (use-fits a.labels.now a.words.now a.marks.now a.ats.now a.formats.now a.n a.at (useAt a.label a.at a.format)
+    (use_fits a.labels.now a.words.now a.marks.now a.ats.now a.formats.now a.n a.at (use_record a.label a.at a.format)
     j.room.result h.least.result f.may-use.result g.named.result j.room.ensures h.least.ensures g.named.ensures
     f.may-use.ensures c.if1.false).0
 
@@ -62,7 +62,7 @@ slice-write-ats c =
     let h = g.before in
     let j = h.before.before in
     let a = j.before.before.before.before.before.before.before.before.before.args in
-    (use-fits a.labels.now a.words.now a.marks.now a.ats.now a.formats.now a.n a.at (useAt a.label a.at a.format)
+    (use_fits a.labels.now a.words.now a.marks.now a.ats.now a.formats.now a.n a.at (use_record a.label a.at a.format)
     j.room.result h.least.result f.may-use.result g.named.result j.room.ensures h.least.ensures g.named.ensures
     f.may-use.ensures c.if1.false).1
 
@@ -73,7 +73,7 @@ slice-write-formats c =
     let h = g.before in
     let j = h.before.before in
     let a = j.before.before.before.before.before.before.before.before.before.args in
-    (use-fits a.labels.now a.words.now a.marks.now a.ats.now a.formats.now a.n a.at (useAt a.label a.at a.format)
+    (use_fits a.labels.now a.words.now a.marks.now a.ats.now a.formats.now a.n a.at (use_record a.label a.at a.format)
     j.room.result h.least.result f.may-use.result g.named.result j.room.ensures h.least.ensures g.named.ensures
     f.may-use.ensures c.if1.false).2
 
@@ -105,12 +105,12 @@ returns-2 c =
     let h = g.before in
     let j = h.before.before in
     let a = j.before.before.before.before.before.before.before.before.before.args in
-    use-taken a.labels.now a.words.now a.marks.now a.ats.now a.formats.now a.n a.at (useAt a.label a.at a.format)
+    use_taken a.labels.now a.words.now a.marks.now a.ats.now a.formats.now a.n a.at (use_record a.label a.at a.format)
     j.room.result h.least.result f.may-use.result g.named.result j.room.ensures h.least.ensures g.named.ensures
     f.may-use.ensures c.if1.false
 
-pub use-flat-spec : {M : Type 1} → statement M
-use-flat-spec =
+pub use_flat_spec : {M : Type 1} → statement M
+use_flat_spec =
     tie.close
     (tie.spec
     room-requires

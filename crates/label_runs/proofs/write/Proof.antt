@@ -5,8 +5,8 @@ use native.Mathlib.Omega.{arith}
 use lib.ListN.{length, take, drop, length-set}
 use borrow.Author.Rules.{rules}
 use Rattle.labels.specs.Sheet.{filled}
-use Rattle.label_runs.specs.Flat.{usesOf}
-use Rattle.label_runs.proofs.Flat.{uses-short, flat-inside, flat-write, flat-over}
+use Rattle.label_runs.specs.Flat.{uses_of}
+use Rattle.label_runs.proofs.Flat.{uses_short, flat_inside, flat_write, flat_over}
 use Rattle.label_runs.proofs.write.Statement.{statement}
 use Rattle.label_runs.proofs.write.Tie as tie
 
@@ -15,7 +15,7 @@ abbrev invariant-loop : tie.invariant-loop
 invariant-loop marks ats formats n labels words₀ at i₀ words i =
     (i ≤ n)
     × (length words ≡ length words₀)
-    × (filled at labels words (drop i (take n (usesOf marks ats formats))) ≡ filled at labels words₀ (take n (usesOf marks ats formats)))
+    × (filled at labels words (drop i (take n (uses_of marks ats formats))) ≡ filled at labels words₀ (take n (uses_of marks ats formats)))
     × (n ≤ length marks)
     × (n ≤ length ats)
     × (n ≤ length formats)
@@ -26,7 +26,7 @@ decreases-loop marks ats formats n labels words₀ at i₀ words i = n - i
 loop-holds : tie.Need-loop-init invariant-loop decreases-loop
 loop-holds c =
     let s = c.before.before.before.before.before in
-    let u = uses-short s.args.marks.now s.args.ats.now s.args.formats.now in
+    let u = uses_short s.args.marks.now s.args.ats.now s.args.formats.now in
     (search rules, refl, refl, omega (arith, u.0, s.requires.0), omega (arith, u.1, s.requires.0), omega (arith, u.2, s.requires.0))
 
 mul-k : tie.Need-overflow-mul-k invariant-loop decreases-loop
@@ -54,7 +54,7 @@ mul-fixed-word-2 c =
     let s = t.before.before.before.before.before.before.before in
     let a = s.args in
     let h =
-    flat-inside a.at a.labels.now a.marks.now a.ats.now a.formats.now a.n s.requires.0 a.words.now s.requires.1 l.i
+    flat_inside a.at a.labels.now a.marks.now a.ats.now a.formats.now a.n s.requires.0 a.words.now s.requires.1 l.i
     t.loop-test.true in
     omega (arith, l.invariant.1)
 
@@ -65,7 +65,7 @@ slice-read-fixed-word c =
     let s = t.before.before.before.before.before.before.before in
     let a = s.args in
     let h =
-    flat-inside a.at a.labels.now a.marks.now a.ats.now a.formats.now a.n s.requires.0 a.words.now s.requires.1 l.i
+    flat_inside a.at a.labels.now a.marks.now a.ats.now a.formats.now a.n s.requires.0 a.words.now s.requires.1 l.i
     t.loop-test.true in
     omega (arith, l.invariant.1)
 
@@ -79,7 +79,7 @@ mul-words-2 c =
     let s = t.before.before.before.before.before.before.before in
     let a = s.args in
     let h =
-    flat-inside a.at a.labels.now a.marks.now a.ats.now a.formats.now a.n s.requires.0 a.words.now s.requires.1 l.i
+    flat_inside a.at a.labels.now a.marks.now a.ats.now a.formats.now a.n s.requires.0 a.words.now s.requires.1 l.i
     t.loop-test.true in
     omega (arith, l.invariant.1)
 
@@ -90,7 +90,7 @@ slice-write-words c =
     let s = t.before.before.before.before.before.before.before in
     let a = s.args in
     let h =
-    flat-inside a.at a.labels.now a.marks.now a.ats.now a.formats.now a.n s.requires.0 a.words.now s.requires.1 l.i
+    flat_inside a.at a.labels.now a.marks.now a.ats.now a.formats.now a.n s.requires.0 a.words.now s.requires.1 l.i
     t.loop-test.true in
     omega (arith, l.invariant.1)
 
@@ -107,7 +107,7 @@ loop-again c =
     let s = t.before.before.before.before.before.before.before in
     let a = s.args in
     let on =
-    flat-write a.at a.labels.now a.marks.now a.ats.now a.formats.now a.n s.requires.0 a.words.now s.requires.1 l.words
+    flat_write a.at a.labels.now a.marks.now a.ats.now a.formats.now a.n s.requires.0 a.words.now s.requires.1 l.words
     l.i c.Fixed-word.result t.loop-test.true c.Fixed-word.ensures l.invariant.2 in
     (search rules, simp length-set l.invariant.1, on, l.invariant.3, l.invariant.4, l.invariant.5)
 
@@ -120,7 +120,7 @@ returns c =
     let s = c.before.before.before.before.before.before.before in
     let a = s.args in
     let over =
-    flat-over a.at a.labels.now a.marks.now a.ats.now a.formats.now a.n s.requires.0 a.words.now s.requires.1 l.words
+    flat_over a.at a.labels.now a.marks.now a.ats.now a.formats.now a.n s.requires.0 a.words.now s.requires.1 l.words
     l.i c.loop-test.false in
     sym over ∙ l.invariant.2
 

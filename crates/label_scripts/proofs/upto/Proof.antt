@@ -12,5 +12,5 @@ returns c =
     let h : c.least.result ≤ length run = omega (arith, c.least.ensures) in
     (h, sym (length-take-le _ _ h))
 
-pub upto-spec : {M : Type 1} → statement M
-upto-spec = tie.close (tie.spec least-requires returns)
+pub upto_spec : {M : Type 1} → statement M
+upto_spec = tie.close (tie.spec least-requires returns)

@@ -9,8 +9,8 @@ invariant-loop run i₀ rest₀ all₀ i rest all = i ≤ length run
 abbrev decreases-loop : tie.decreases-loop
 decreases-loop run i₀ rest₀ all₀ i rest all = i
 
-pub word-sum-spec : {M : Type 1} → statement M
-word-sum-spec =
+pub word_sum_spec : {M : Type 1} → statement M
+word_sum_spec =
     tie.close
     (tie.spec
     invariant-loop

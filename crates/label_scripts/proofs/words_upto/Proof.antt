@@ -12,5 +12,5 @@ returns c =
     let h : c.least.result ≤ length run = omega (arith, c.least.ensures) in
     (h, sym (length-take-le _ _ h))
 
-pub words-upto-spec : {M : Type 1} → statement M
-words-upto-spec = tie.close (tie.spec least-requires returns)
+pub words_upto_spec : {M : Type 1} → statement M
+words_upto_spec = tie.close (tie.spec least-requires returns)

@@ -19,5 +19,5 @@ answered-requires-2 c κs = search rules
 returns-2 : tie.Need-returns-2
 returns-2 c = simp (le-ltb _ _ c.before.if1.false) c.answered2.ensures
 
-pub added-spec : {M : Type 1} → statement M
-added-spec = tie.close (tie.spec add-answered answered-requires answered-requires-2 returns returns-2)
+pub added_spec : {M : Type 1} → statement M
+added_spec = tie.close (tie.spec add-answered answered-requires answered-requires-2 returns returns-2)

@@ -55,21 +55,21 @@ use denote.Exit.{yes}
 use Rattle.words.specs.declared.Place.{Place}
 use Rattle.words.specs.contracts.Place as P
 use Rattle.words.proofs.Place.TheLaws as P'
-use Rattle.labels.specs.Sheet.{names, wordNumber, checkOf}
+use Rattle.labels.specs.Sheet.{names, word_number, check_of}
 use Rattle.labels.specs.declared.Use.{Use}
 use Rattle.labels.proofs.Finishing.{none}
-use Rattle.labels.proofs.Turns.{checkAt, number-on, number-bad, number-end}
+use Rattle.labels.proofs.Turns.{check_at, number_on, number_bad, number_end}
 use Rattle.labels.specs.contracts.Use as T
 use Rattle.labels.proofs.Use.TheLaws as T'
 use Rattle.label_uses.specs.contracts.use_number as num
-use Rattle.label_uses.proofs.use_number.Symbol as num-def
+use Rattle.label_uses.proofs.use_number.Symbol as num_def
 use Rattle.label_uses.proofs.use_number.Symbol.{name as #label-uses·use-number}
-use Rattle.label_uses.proofs.use_number.Met as num-thm
-use Rattle.label_sheets.proofs.Steps.{rest, differs, zero_is, place-typed}
+use Rattle.label_uses.proofs.use_number.Met as num_thm
+use Rattle.label_sheets.proofs.Steps.{rest, differs, zero_is, place_typed}
 use Rattle.label_sheets.specs.contracts.named as scan
-use Rattle.label_sheets.proofs.named.Symbol as scan-def
+use Rattle.label_sheets.proofs.named.Symbol as scan_def
 use Rattle.label_sheets.proofs.named.Symbol.{name as #label-sheets·named}
-use Rattle.label_sheets.proofs.named.Met as scan-thm
+use Rattle.label_sheets.proofs.named.Met as scan_thm
 use Rattle.label_sheets.specs.contracts.check_uses.Key.{name as #label-sheets·check-uses}
 use Rattle.label_sheets.specs.contracts.check_uses as cu
 use Rattle.label_sheets.proofs.check_uses.Statement as stated
@@ -91,14 +91,14 @@ stayed = (
 abbrev word : Ty
 word = ty_int w64
 
-abbrev uses-ty : Ty
-uses-ty = slice_ty (ty_ref (named 0) imm (pointee (T.the_row).written))
+abbrev uses_ty : Ty
+uses_ty = slice_ty (ty_ref (named 0) imm (pointee (T.the_row).written))
 
-abbrev labels-ty : Ty
-labels-ty = slice_ty (ty_ref (named 1) imm (ty_int w64))
+abbrev labels_ty : Ty
+labels_ty = slice_ty (ty_ref (named 1) imm (ty_int w64))
 
-abbrev words-ty : Ty
-words-ty = slice_ty (ty_ref (named 2) imm (ty_int w32))
+abbrev words_ty : Ty
+words_ty = slice_ty (ty_ref (named 2) imm (ty_int w32))
 
 module _ {M : Type 1} {𝓤 : Ura M} (𝓛 : Logic 𝓤) (mem : Memory → SProp 𝓤) (run : Routine → Fun 𝓤) where
   -- the contracts that the proof cites
@@ -164,7 +164,7 @@ module _ {M : Type 1} {𝓤 : Ura M} (𝓛 : Logic 𝓤) (mem : Memory → SProp
   abbrev Held : List (Item 𝓤)
   Held = ‵ Shr ∷ ‵ (flft κ q) ∷ ‵ ShrL ∷ ‵ (flft κ' q') ∷ ‵ ShrW ∷ ‵ (flft κ'' q'') ∷ []
 
-  exits : (r : ℕ) → r ≡ checkOf pl ls ws [] (take m us) → r < 2 ^ 32 → ent 𝓤 (⋆ 𝓛 Held) (Post (vint w32 r))
+  exits : (r : ℕ) → r ≡ check_of pl ls ws [] (take m us) → r < 2 ^ 32 → ent 𝓤 (⋆ 𝓛 Held) (Post (vint w32 r))
   exits r e fits =
       qed 𝓛 Held ∵
       suffices ! _ (ends_at 𝓛 cu.ended stayed (cu.clauses 𝓛 mem run) (((κ, (κ', (κ'', tt))), (q, (q', (q'', tt))), tt, x, at), tt)
@@ -209,13 +209,13 @@ module _ {M : Type 1} {𝓤 : Ura M} (𝓛 : Logic 𝓤) (mem : Memory → SProp
 
   said₂ : (u : Use) (y : Bool) (r : ℕ)
       → ent 𝓤 (ensured 𝓛 num.ended (num.clauses 𝓛 mem run) (κ', (κ'', tt)) (lref, (wref, (pl, (u, (y, tt))))) tt r)
-      (fact 𝓤 (r ≡ wordNumber pl ls ws y u))
+      (fact 𝓤 (r ≡ word_number pl ls ws y u))
   said₂ u y r = ex_e 𝓤 _ (λ vs. snd∗ 𝓤 (sem 𝓛 (lasts num.ended (κ', (κ'', tt)) (lref, (wref, (pl, (u, (y, tt))))) vs))
-      (fact 𝓤 (r ≡ wordNumber pl ls ws y u)))
+      (fact 𝓤 (r ≡ word_number pl ls ws y u)))
 
   -- how far the loop is, and that the answer is that of the rest
   abbrev Upto : Type 0
-  Upto = (i : ℕ) × ((i ≤ m) × (checkOf pl ls ws [] (take m us) ≡ checkAt pl ls ws (take m us) i))
+  Upto = (i : ℕ) × ((i ≤ m) × (check_of pl ls ws [] (take m us) ≡ check_at pl ls ws (take m us) i))
 
   abbrev Nearer : Upto → Upto → Type 0
   Nearer j i = m - j.0 < m - i.0
@@ -234,7 +234,7 @@ module _ {M : Type 1} {𝓤 : Ura M} (𝓛 : Logic 𝓤) (mem : Memory → SProp
     fm = fm_of 𝓤 H 𝓛.laws 𝓣
 
     abbrev En : Env 𝓤 H
-    En = ((ty_int w32), l₀) ∷ (uses-ty, l₁) ∷ (word, l₂) ∷ (labels-ty, l₃) ∷ (words-ty, l₄) ∷ (P'.mir, l₅) ∷ (word, l₆) ∷ (T'.mir, l₇) ∷
+    En = ((ty_int w32), l₀) ∷ (uses_ty, l₁) ∷ (word, l₂) ∷ (labels_ty, l₃) ∷ (words_ty, l₄) ∷ (P'.mir, l₅) ∷ (word, l₆) ∷ (T'.mir, l₇) ∷
         (ty_bool, l₈) ∷ ((ty_int w32), l₉) ∷ (ty_bool, l₁₀) ∷ (word, l₁₁) ∷ (ty_ptr, l₁₂) ∷ (T'.mir, l₁₃) ∷ []
 
     -- local j stands at 2 * (13 - j)
@@ -244,8 +244,8 @@ module _ {M : Type 1} {𝓤 : Ura M} (𝓛 : Logic 𝓤) (mem : Memory → SProp
         ∷ ‵ (froom ty_bool l₁₀ 0) ∷ ‵ (fdies ty_bool l₁₀) ∷ ‵ (froom (ty_int w32) l₉ 0) ∷ ‵ (fdies (ty_int w32) l₉)
         ∷ ‵ (froom ty_bool l₈ 0) ∷ ‵ (fdies ty_bool l₈) ∷ ‵ (froom T'.mir l₇ 0) ∷ ‵ (fdies T'.mir l₇)
         ∷ ‵ (fat full_share word l₆ 0 (vint w64 i.0)) ∷ ‵ (fdies word l₆) ∷ ‵ (fat full_share P'.mir l₅ 0 mach) ∷ ‵ (fdies P'.mir l₅)
-        ∷ ‵ (fat full_share words-ty l₄ 0 sw) ∷ ‵ (fdies words-ty l₄) ∷ ‵ (fat full_share labels-ty l₃ 0 sl) ∷ ‵ (fdies labels-ty l₃)
-        ∷ ‵ (fat full_share word l₂ 0 (vint w64 m)) ∷ ‵ (fdies word l₂) ∷ ‵ (fat full_share uses-ty l₁ 0 su) ∷ ‵ (fdies uses-ty l₁)
+        ∷ ‵ (fat full_share words_ty l₄ 0 sw) ∷ ‵ (fdies words_ty l₄) ∷ ‵ (fat full_share labels_ty l₃ 0 sl) ∷ ‵ (fdies labels_ty l₃)
+        ∷ ‵ (fat full_share word l₂ 0 (vint w64 m)) ∷ ‵ (fdies word l₂) ∷ ‵ (fat full_share uses_ty l₁ 0 su) ∷ ‵ (fdies uses_ty l₁)
         ∷ ‵ (froom (ty_int w32) l₀ 0) ∷ ‵ (fdies (ty_int w32) l₀) ∷ ‵ Shr ∷ ‵ (flft κ q) ∷ ‵ ShrL ∷ ‵ (flft κ' q') ∷ ‵ ShrW ∷ ‵ (flft κ'' q'') ∷ []
 
     abbrev Turned : Upto → Out → SProp 𝓤
@@ -306,8 +306,8 @@ module _ {M : Type 1} {𝓤 : Ura M} (𝓛 : Logic 𝓤) (mem : Memory → SProp
         (and_then ! (load ! (from ! (stop !)) (look ! 15 refl)) (and_then ! (load ! (from ! (stop !)) (look ! 13 refl)) (no_more !)))))) (λ v₂.
         use1 𝓛 (later (some (λ (r : ℕ). ((‵ (flft κ' q') ⊛ ‵ (flft κ'' q'') ⊛ ‵ ftrue) ⊛ ‵ (u32.own_val r (v₂ ∷ []))) ⊛ raw
         (ensured 𝓛 num.ended (num.clauses 𝓛 mem run) (κ', (κ'', tt)) (lref, (wref, (pl, (u, (y, tt))))) tt r)))) (id⊢ 𝓤 _) $ await ! tt $
-        pick ! (λ r. split ! $ move ! (1 ∷ []) $ use1 𝓛 (raw (fact 𝓤 (r ≡ wordNumber pl ls ws y u))) (said₂ u y r) $
-        heard ! (r ≡ wordNumber pl ls ws y u) (λ e. split ! $ move ! (1 ∷ []) $ peeks ! u32 (Is u32) (shows 𝓛 u32) r (v₂ ∷ []) (λ is.
+        pick ! (λ r. split ! $ move ! (1 ∷ []) $ use1 𝓛 (raw (fact 𝓤 (r ≡ word_number pl ls ws y u))) (said₂ u y r) $
+        heard ! (r ≡ word_number pl ls ws y u) (λ e. split ! $ move ! (1 ∷ []) $ peeks ! u32 (Is u32) (shows 𝓛 u32) r (v₂ ∷ []) (λ is.
         land ! (from ! (stop !)) (init ! 12 refl ((uint_Lawful 𝓛 w32).typed r _ is).0) $ drop ! $
         rewrite ! 11 (λ (w : Val). ‵ (fat full_share (ty_int w32) l₉ 0 w)) (ap only is.0) refl $ split ! $ move ! (1 ∷ []) $ split ! $
         keep ! (5 ∷ 6 ∷ 7 ∷ 8 ∷ 9 ∷ 10 ∷ 11 ∷ 12 ∷ 13 ∷ 14 ∷ 15 ∷ 16 ∷ 17 ∷ 18 ∷ 19 ∷ 20 ∷ 21 ∷ 22 ∷ 23 ∷ 24 ∷ 25 ∷ 26 ∷ 27 ∷ 28 ∷ 29 ∷ 30 ∷ 31 ∷
@@ -321,12 +321,12 @@ module _ {M : Type 1} {𝓤 : Ura M} (𝓛 : Logic 𝓤) (mem : Memory → SProp
         move ! (20 ∷ 21 ∷ []) $ free1 ! $ move ! (18 ∷ 19 ∷ []) $ free1 ! $ move ! (16 ∷ 17 ∷ []) $ free1 ! $ move ! (14 ∷ 15 ∷ []) $ free1 ! $
         move ! (12 ∷ 13 ∷ []) $ free1 ! $ move ! (10 ∷ 11 ∷ []) $ free1 ! $ move ! (8 ∷ 9 ∷ []) $ free1 ! $ move ! (6 ∷ 7 ∷ []) $ free1 ! $
         move ! (4 ∷ 5 ∷ []) $ free1 ! $ move ! (2 ∷ 3 ∷ []) $ free1 ! $ move ! (0 ∷ 1 ∷ []) $ free1 ! $ free0 ! $
-        by ! (exits r (number-bad pl ls ws us m room i.0 h y scanned r e (differs r 0 no) ∙ sym i.1.1) is.1))
+        by ! (exits r (number_bad pl ls ws us m room i.0 h y scanned r e (differs r 0 no) ∙ sym i.1.1) is.1))
         (λ fine. skips ! $ exec ! C Λ En (rest (rest (rest (rest (rest (rest (rest (rest (rest (rest turn-1)))))))))) (any_q (Turned i)) $
         assigns_last ! (bin ! (load ! (from ! (stop !)) (look ! 14 refl)) (lit ! tt) (record { fits = omega (arith, gn.0) })) (from ! (stop !))
         (store ! 14 refl (tt, record { fits = omega (arith, gn.0) })) $ forget ! 0 refl $ forget ! 2 refl $ forget ! 4 refl $ forget ! 6 refl $
         forget ! 8 refl $ forget ! 10 refl $ forget ! 12 refl $
-        again ! Nearer At i (i.0 + 1, (add-one-le h, i.1.1 ∙ number-on pl ls ws us m room i.0 h y scanned r e (zero_is r fine)))
+        again ! Nearer At i (i.0 + 1, (add-one-le h, i.1.1 ∙ number_on pl ls ws us m room i.0 h y scanned r e (zero_is r fine)))
         (omega arith)))))))))))))
         (λ over. jumps ! $ exec ! C Λ En t-3 (at_ret En Post) $
         assigns ! (of_opd ! (lit ! tt)) (from ! (stop !)) (init ! 26 refl (tt, record { fits = lit< tt })) $ returns ! (look ! 26 refl) $
@@ -335,7 +335,7 @@ module _ {M : Type 1} {𝓤 : Ura M} (𝓛 : Logic 𝓤) (mem : Memory → SProp
         move ! (20 ∷ 21 ∷ []) $ free1 ! $ move ! (18 ∷ 19 ∷ []) $ free1 ! $ move ! (16 ∷ 17 ∷ []) $ free1 ! $ move ! (14 ∷ 15 ∷ []) $ free1 ! $
         move ! (12 ∷ 13 ∷ []) $ free1 ! $ move ! (10 ∷ 11 ∷ []) $ free1 ! $ move ! (8 ∷ 9 ∷ []) $ free1 ! $ move ! (6 ∷ 7 ∷ []) $ free1 ! $
         move ! (4 ∷ 5 ∷ []) $ free1 ! $ move ! (2 ∷ 3 ∷ []) $ free1 ! $ move ! (0 ∷ 1 ∷ []) $ free1 ! $ free0 ! $
-        by ! (exits 0 (sym (i.1.1 ∙ number-end pl ls ws us m room i.0 (nltb→le i.0 m over))) (lit< tt)))
+        by ! (exits 0 (sym (i.1.1 ∙ number_end pl ls ws us m room i.0 (nltb→le i.0 m over))) (lit< tt)))
 
     -- the loop and what follows, over En: with the environment as the code spells it the kernel takes too long
     looped : Sq 𝓛 (At (0, (zero-le, refl))) (runs C Λ En t-2 (at_ret En Post))
@@ -355,7 +355,7 @@ module _ {M : Type 1} {𝓤 : Ura M} (𝓛 : Logic 𝓤) (mem : Memory → SProp
       alloc1 ! (λ l₈. alloc1 ! (λ l₉. alloc1 ! (λ l₁₀. alloc1 ! (λ l₁₁. alloc1 ! (λ l₁₂. alloc1 ! (λ l₁₃. alloc0 ! $ params1 ! $
       pass1 ! (init ! 24 refl (tt, (tt, (record { fits = gn.0 }, tt)))) $ pass1 ! (init ! 22 refl (tt, record { fits = gm })) $
       pass1 ! (init ! 20 refl (tt, (tt, (record { fits = gl.0 }, tt)))) $ pass1 ! (init ! 18 refl (tt, (tt, (record { fits = gw.0 }, tt)))) $
-      pass1 ! (init ! 16 refl (place-typed 𝓛 pl gp)) $ pass0 ! $
+      pass1 ! (init ! 16 refl (place_typed 𝓛 pl gp)) $ pass0 ! $
       assigns ! (of_opd ! (lit ! tt)) (from ! (stop !)) (init ! 14 refl (tt, record { fits = lit< tt })) $
       -- the tokens, and what the slices own
       move ! (29 ∷ []) $ fsplit ! $ move ! (1 ∷ []) $ fsplit ! $ move ! (1 ∷ []) $ fsplit ! $ move ! (1 ∷ []) $ fsplit ! $ move ! (33 ∷ []) $
@@ -366,9 +366,9 @@ module _ {M : Type 1} {𝓤 : Ura M} (𝓛 : Logic 𝓤) (mem : Memory → SProp
 module _ {M : Type 1} {𝓤 : Ura M} (𝓛 : Logic 𝓤) (mem : Memory → SProp 𝓤) (run : Routine → Fun 𝓤) where
   open 𝓛 use {H}
 
-  cu-walks : (𝓣 : Tables 𝓤 H) → Known 𝓛 mem run 𝓣.C
+  cu_walks : (𝓣 : Tables 𝓤 H) → Known 𝓛 mem run 𝓣.C
       → Walks 𝓛 cu.ended stayed (WpFn 𝓤 H 𝓣.C 𝓣.Λ code.function) (cu.clauses 𝓛 mem run)
-  cu-walks 𝓣 known = walked 𝓛 cu.ended stayed (cu.clauses 𝓛 mem run) (WpFn 𝓤 H 𝓣.C 𝓣.Λ code.function)
+  cu_walks 𝓣 known = walked 𝓛 cu.ended stayed (cu.clauses 𝓛 mem run) (WpFn 𝓤 H 𝓣.C 𝓣.Λ code.function)
       (λ κs. (shr_slice_vals, (uint_vals w64, (shr_slice_vals, (shr_slice_vals, (LL.vals P.the_type P'.the_laws, tt))))))
       (λ κs. (
         shr_slice_Tells (named 0) κs.0 T.the_row,
@@ -386,9 +386,9 @@ module _ {M : Type 1} {𝓤 : Ura M} (𝓛 : Logic 𝓤) (mem : Memory → SProp
       a.1.1.1.0.ref_ptr.0 a.1.1.1.0.ref_ptr.1 0 a.1.1.1.0.now a.1.1.1.1.0
       are.0.0.1 are.1.0.1 are.1.1.0.0.1 are.1.1.1.0.0.1 are.1.1.1.1.0 room 𝓣 known))
 
-cu-meets : {M : Type 1} {𝓤 : Ura M} (𝓛 : Logic 𝓤) → (mem : Memory → SProp 𝓤) (run : Routine → Fun 𝓤) (𝓣 : Tables 𝓤 𝓛.H)
+cu_meets : {M : Type 1} {𝓤 : Ura M} (𝓛 : Logic 𝓤) → (mem : Memory → SProp 𝓤) (run : Routine → Fun 𝓤) (𝓣 : Tables 𝓤 𝓛.H)
     → Known 𝓛 mem run 𝓣.C → Meets 𝓛 cu.signature (WpFn 𝓤 𝓛.H 𝓣.C 𝓣.Λ code.function) (cu.spec 𝓛 mem run)
-cu-meets {𝓤 = 𝓤} 𝓛 mem run 𝓣 known = walk_Meets 𝓛 cu.ended stayed (
+cu_meets {𝓤 = 𝓤} 𝓛 mem run 𝓣 known = walk_Meets 𝓛 cu.ended stayed (
   Goes-none_slice 𝓛 3 (0 ∷ []) tt (plain (λ _. T.the_row)) yes,
   (
     Goes-none 𝓛 3 (λ _. usize) yes (λ κs x f. refl),
@@ -401,16 +401,16 @@ cu-meets {𝓤 = 𝓤} 𝓛 mem run 𝓣 known = walk_Meets 𝓛 cu.ended stayed
     ),
   ),
 ) (cu.clauses 𝓛 mem run)
-    (WpFn 𝓤 𝓛.H 𝓣.C 𝓣.Λ code.function) (WpFn-mono 𝓤 𝓛.H 𝓛.laws 𝓣 code.function) (cu-walks 𝓛 mem run 𝓣 known)
+    (WpFn 𝓤 𝓛.H 𝓣.C 𝓣.Λ code.function) (WpFn-mono 𝓤 𝓛.H 𝓛.laws 𝓣 code.function) (cu_walks 𝓛 mem run 𝓣 known)
 
-pub check-uses-spec : {M : Type 1} → stated.statement M
+pub check_uses_spec : {M : Type 1} → stated.statement M
 unfolding code.routine tables_of
-check-uses-spec 𝓤 𝓛 𝓜 𝓡 =
+check_uses_spec 𝓤 𝓛 𝓜 𝓡 =
     entered 𝓤 𝓛.H (triple_of 𝓛 cu.signature (cu.spec 𝓛 𝓜.mem 𝓡.run))
     (tables 𝓤 𝓛.H 𝓜 𝓡 code.env).C (tables 𝓤 𝓛.H 𝓜 𝓡 code.env).Λ #label-sheets·check-uses code.function (code.unfolded 𝓤 𝓛.H 𝓜 𝓡)
-    (cu-meets 𝓛 𝓜.mem 𝓡.run (tables_of 𝓤 𝓛.H 𝓜 (tables 𝓤 𝓛.H 𝓜 𝓡 code.env)) (
-      cited 𝓤 𝓛.H (Scan 𝓛 𝓜.mem 𝓡.run) 𝓜 𝓡 code.env #label-sheets·named scan-def.routine code.calls-label-sheets::named
-          (scan-thm.met 𝓤 𝓛 𝓜 𝓡),
-      cited 𝓤 𝓛.H (Numb 𝓛 𝓜.mem 𝓡.run) 𝓜 𝓡 code.env #label-uses·use-number num-def.routine code.calls-label-uses::use-number
-          (num-thm.met 𝓤 𝓛 𝓜 𝓡),
+    (cu_meets 𝓛 𝓜.mem 𝓡.run (tables_of 𝓤 𝓛.H 𝓜 (tables 𝓤 𝓛.H 𝓜 𝓡 code.env)) (
+      cited 𝓤 𝓛.H (Scan 𝓛 𝓜.mem 𝓡.run) 𝓜 𝓡 code.env #label-sheets·named scan_def.routine code.calls-label-sheets::named
+          (scan_thm.met 𝓤 𝓛 𝓜 𝓡),
+      cited 𝓤 𝓛.H (Numb 𝓛 𝓜.mem 𝓡.run) 𝓜 𝓡 code.env #label-uses·use-number num_def.routine code.calls-label-uses::use_number_lem
+          (num_thm.met 𝓤 𝓛 𝓜 𝓡),
     ))

@@ -46,38 +46,38 @@ use Rattle.words.specs.contracts.Place as P
 use Rattle.words.proofs.Place.TheLaws as P'
 use Rattle.labels.specs.declared.Use.{Use}
 use Rattle.labels.specs.declared.Counted.{Counted}
-use Rattle.labels.specs.Order.{first, orThen}
-use Rattle.labels.specs.Sheet.{checkOf, filled, finishTests, finishOf, countSaid, countedOf}
+use Rattle.labels.specs.Order.{first, or_else}
+use Rattle.labels.specs.Sheet.{check_of, filled, finish_tests, finish_of, count_said, counted_of}
 use Rattle.labels.specs.contracts.Use as T
 use Rattle.labels.specs.contracts.Counted as E
 use Rattle.labels.proofs.Counted.TheLaws as E'
-use Rattle.label_sheets.specs.Private.{passedOf}
+use Rattle.label_sheets.specs.Private.{passed_of}
 use Rattle.label_sheets.proofs.Shared.{LentShared, lends_shared, shared_back}
-use Rattle.label_sheets.proofs.Thin.{held-le, passed_ok, finish-thin}
+use Rattle.label_sheets.proofs.Thin.{held_le, passed_ok, finish_thin}
 use Rattle.labels.specs.contracts.may_finish as may
-use Rattle.labels.proofs.may_finish.Symbol as may-def
+use Rattle.labels.proofs.may_finish.Symbol as may_def
 use Rattle.labels.proofs.may_finish.Symbol.{name as #labels·may-finish}
-use Rattle.labels.proofs.may_finish.Met as may-thm
+use Rattle.labels.proofs.may_finish.Met as may_thm
 use Rattle.label_sheets.specs.contracts.passed as passed
-use Rattle.label_sheets.proofs.passed.Symbol as passed-def
+use Rattle.label_sheets.proofs.passed.Symbol as passed_def
 use Rattle.label_sheets.proofs.passed.Symbol.{name as #label-sheets·passed}
-use Rattle.label_sheets.proofs.passed.Met as passed-thm
+use Rattle.label_sheets.proofs.passed.Met as passed_thm
 use Rattle.label_sheets.specs.contracts.check_uses as check
-use Rattle.label_sheets.proofs.check_uses.Symbol as check-def
+use Rattle.label_sheets.proofs.check_uses.Symbol as check_def
 use Rattle.label_sheets.proofs.check_uses.Symbol.{name as #label-sheets·check-uses}
-use Rattle.label_sheets.proofs.check_uses.Met as check-thm
+use Rattle.label_sheets.proofs.check_uses.Met as check_thm
 use Rattle.label_sheets.specs.contracts.or_then as or
-use Rattle.label_sheets.proofs.or_then.Symbol as or-def
+use Rattle.label_sheets.proofs.or_then.Symbol as or_def
 use Rattle.label_sheets.proofs.or_then.Symbol.{name as #label-sheets·or-then}
-use Rattle.label_sheets.proofs.or_then.Met as or-thm
+use Rattle.label_sheets.proofs.or_then.Met as or_thm
 use Rattle.label_sheets.specs.contracts.write_uses as write
 use Rattle.label_sheets.proofs.write_uses.Symbol as write_def
 use Rattle.label_sheets.proofs.write_uses.Symbol.{name as #label-sheets·write-uses}
 use Rattle.label_sheets.proofs.write_uses.Met as write_thm
 use Rattle.labels.specs.contracts.answered as ans
-use Rattle.labels.proofs.answered.Symbol as ans-def
+use Rattle.labels.proofs.answered.Symbol as ans_def
 use Rattle.labels.proofs.answered.Symbol.{name as #labels·answered}
-use Rattle.labels.proofs.answered.Met as ans-thm
+use Rattle.labels.proofs.answered.Met as ans_thm
 use Rattle.label_sheets.specs.contracts.finish.Key.{name as #label-sheets·finish}
 use Rattle.label_sheets.specs.contracts.finish as fs
 use Rattle.label_sheets.proofs.finish.Statement as stated
@@ -181,9 +181,9 @@ module _ {M : Type 1} {𝓤 : Ura M} (𝓛 : Logic 𝓤) (mem : Memory → SProp
   asked₁ = qed 𝓛 (‵ ftrue ∷ ‵ (owns (P.the_row ∷ usize ∷ usize ∷ []) (pl, (n, (length us, tt))) vals₁) ∷ []) ∵ join ! $ frame ! $ done !
 
   said₁ : (y : ℕ) → ent 𝓤 (ensured 𝓛 may.ended (may.clauses 𝓛 mem run) tt (pl, (n, (length us, tt))) tt y)
-      (fact 𝓤 (y ≡ first (finishTests pl (length us) n) 0))
+      (fact 𝓤 (y ≡ first (finish_tests pl (length us) n) 0))
   said₁ y = ex_e 𝓤 _ (λ vs. snd∗ 𝓤 (sem 𝓛 (lasts may.ended tt (pl, (n, (length us, tt))) vs))
-      (fact 𝓤 (y ≡ first (finishTests pl (length us) n) 0)))
+      (fact 𝓤 (y ≡ first (finish_tests pl (length us) n) 0)))
 
   -- so many go on
   abbrev vals₂ : (j : ℕ) → Vals passed.signature tt
@@ -195,8 +195,8 @@ module _ {M : Type 1} {𝓤 : Ura M} (𝓛 : Logic 𝓤) (mem : Memory → SProp
   asked₂ : (j : ℕ) → ent 𝓤 (⋆ 𝓛 (‵ ftrue ∷ ‵ (owns (usize ∷ u32 ∷ []) (n, (j, tt)) (vals₂ j)) ∷ [])) ((PassedC 𝓛 mem run).pre (to₂ j))
   asked₂ j = qed 𝓛 (‵ ftrue ∷ ‵ (owns (usize ∷ u32 ∷ []) (n, (j, tt)) (vals₂ j)) ∷ []) ∵ join ! $ frame ! $ done !
 
-  said₂ : (j : ℕ) (y : ℕ) → ent 𝓤 (ensured 𝓛 passed.ended (passed.clauses 𝓛 mem run) tt (n, (j, tt)) tt y) (fact 𝓤 (y ≡ passedOf n j))
-  said₂ j y = ex_e 𝓤 _ (λ vs. snd∗ 𝓤 (sem 𝓛 (lasts passed.ended tt (n, (j, tt)) vs)) (fact 𝓤 (y ≡ passedOf n j)))
+  said₂ : (j : ℕ) (y : ℕ) → ent 𝓤 (ensured 𝓛 passed.ended (passed.clauses 𝓛 mem run) tt (n, (j, tt)) tt y) (fact 𝓤 (y ≡ passed_of n j))
+  said₂ j y = ex_e 𝓤 _ (λ vs. snd∗ 𝓤 (sem 𝓛 (lasts passed.ended tt (n, (j, tt)) vs)) (fact 𝓤 (y ≡ passed_of n j)))
 
   -- the check of the first m, with the words lent for ν under the name δ
   abbrev vals₃ : (ν : ℕ) (δ : GName) (m : ℕ) → Vals check.signature (κ, (κ', ((ν ∷ []), tt)))
@@ -214,9 +214,9 @@ module _ {M : Type 1} {𝓤 : Ura M} (𝓛 : Logic 𝓤) (mem : Memory → SProp
       (uref, (m, (lref, (wref δ, (pl, tt))))) (vals₃ ν δ m)) ∷ []) ∵ says ! h $ frame ! $ done !
 
   said₃ : (ν : ℕ) (δ : GName) (m : ℕ) (y : ℕ) → ent 𝓤 (ensured 𝓛 check.ended (check.clauses 𝓛 mem run) (κ, (κ', ((ν ∷ []), tt)))
-      (uref, (m, (lref, (wref δ, (pl, tt))))) tt y) (fact 𝓤 (y ≡ checkOf pl ls ws [] (take m us)))
+      (uref, (m, (lref, (wref δ, (pl, tt))))) tt y) (fact 𝓤 (y ≡ check_of pl ls ws [] (take m us)))
   said₃ ν δ m y = ex_e 𝓤 _ (λ vs. snd∗ 𝓤 (sem 𝓛 (lasts check.ended (κ, (κ', ((ν ∷ []), tt))) (uref, (m, (lref, (wref δ, (pl, tt))))) vs))
-      (fact 𝓤 (y ≡ checkOf pl ls ws [] (take m us))))
+      (fact 𝓤 (y ≡ check_of pl ls ws [] (take m us))))
 
   -- of two numbers the first that refuses
   abbrev vals₄ : (early : ℕ) (found : ℕ) → Vals or.signature tt
@@ -230,8 +230,8 @@ module _ {M : Type 1} {𝓤 : Ura M} (𝓛 : Logic 𝓤) (mem : Memory → SProp
   asked₄ early found = qed 𝓛 (‵ ftrue ∷ ‵ (owns (u32 ∷ u32 ∷ []) (early, (found, tt)) (vals₄ early found)) ∷ []) ∵ join ! $ frame ! $ done !
 
   said₄ : (early : ℕ) (found : ℕ) (y : ℕ) → ent 𝓤 (ensured 𝓛 or.ended (or.clauses 𝓛 mem run) tt (early, (found, tt)) tt y)
-      (fact 𝓤 (y ≡ orThen early found))
-  said₄ early found y = ex_e 𝓤 _ (λ vs. snd∗ 𝓤 (sem 𝓛 (lasts or.ended tt (early, (found, tt)) vs)) (fact 𝓤 (y ≡ orThen early found)))
+      (fact 𝓤 (y ≡ or_else early found))
+  said₄ early found y = ex_e 𝓤 _ (λ vs. snd∗ 𝓤 (sem 𝓛 (lasts or.ended tt (early, (found, tt)) vs)) (fact 𝓤 (y ≡ or_else early found)))
 
   -- the writing of the first k, to which the words are given up
   abbrev vals₅ : (k : ℕ) → Vals write.signature (κ, (κ', (κ'', tt)))
@@ -240,7 +240,7 @@ module _ {M : Type 1} {𝓤 : Ura M} (𝓛 : Logic 𝓤) (mem : Memory → SProp
   abbrev to₅ : (k : ℕ) → (WriteC 𝓛 mem run).Ghost
   to₅ k = (((κ, (κ', (κ'', tt))), (q, (q', (q'', tt))), tt, (uref, (k, (lref, (wref γ'', (pl, tt))))), vals₅ k), tt)
 
-  asked₅ : (k : ℕ) → (k ≤ length us) × (checkOf pl ls ws [] (take k us) ≡ 0) → ent 𝓤
+  asked₅ : (k : ℕ) → (k ≤ length us) × (check_of pl ls ws [] (take k us) ≡ 0) → ent 𝓤
       (⋆ 𝓛 ((‵ (flft κ q) ⊛ ‵ (flft κ' q') ⊛ ‵ (flft κ'' q'') ⊛ ‵ ftrue) ∷ ‵
       (owns (ShrSlice (named 0) κ T.the_row ∷ usize ∷ ShrSlice (named 1) κ' usize ∷ MutSlice (named 2) κ'' u32 ∷ P.the_row ∷ [])
       (uref, (k, (lref, (wref γ'', (pl, tt))))) (vals₅ k)) ∷ [])) ((WriteC 𝓛 mem run).pre (to₅ k))
@@ -259,11 +259,11 @@ module _ {M : Type 1} {𝓤 : Ura M} (𝓛 : Logic 𝓤) (mem : Memory → SProp
   asked₆ r = qed 𝓛 (‵ ftrue ∷ ‵ (owns (usize ∷ u32 ∷ []) (0, (r, tt)) (vals₆ r)) ∷ []) ∵ join ! $ frame ! $ done !
 
   said₆ : (r : ℕ) (y : Counted) → ent 𝓤 (ensured 𝓛 ans.ended (ans.clauses 𝓛 mem run) tt (0, (r, tt)) tt y)
-      (fact 𝓤 (countSaid y ≡ countedOf 0 r))
-  said₆ r y = ex_e 𝓤 _ (λ vs. snd∗ 𝓤 (sem 𝓛 (lasts ans.ended tt (0, (r, tt)) vs)) (fact 𝓤 (countSaid y ≡ countedOf 0 r)))
+      (fact 𝓤 (count_said y ≡ counted_of 0 r))
+  said₆ r y = ex_e 𝓤 _ (λ vs. snd∗ 𝓤 (sem 𝓛 (lasts ans.ended tt (0, (r, tt)) vs)) (fact 𝓤 (count_said y ≡ counted_of 0 r)))
 
   module _ (C : Calls 𝓤 H) (Λ : Loops 𝓤 H) (fm : FmC 𝓤 H 𝓛.laws C) (known : Known 𝓛 mem run C) (p : Is P.the_row pl (mach ∷ [])) where
-    exits : (c : Counted) (w : Val) (zs : List ℕ) → length zs ≡ length ws → (countSaid c, zs) ≡ finishOf pl ls ws us n
+    exits : (c : Counted) (w : Val) (zs : List ℕ) → length zs ≡ length ws → (count_said c, zs) ≡ finish_of pl ls ws us n
         → ent 𝓤 (⋆ 𝓛 (‵ ((E.the_row).own_val c (w ∷ [])) ∷ ‵ (finally u32 γ'' zs) ∷ (‵ (flft κ q) ⊛ ‵ (flft κ' q') ⊛ ‵ (flft κ'' q'') ⊛ ‵ ftrue) ∷ ‵
         ShrU ∷ ‵ ShrL ∷ [])) (Post w)
     exits c w zs l e =
@@ -303,8 +303,8 @@ module _ {M : Type 1} {𝓤 : Ura M} (𝓛 : Logic 𝓤) (mem : Memory → SProp
         (and_then ! (load ! (from ! (stop !)) (look ! 29 refl)) (and_then ! (load ! (from ! (stop !)) (look ! 11 refl)) (no_more !)))) (λ v₁.
         use1 𝓛 (later (some (λ (early : ℕ). (‵ ftrue ⊛ ‵ (u32.own_val early (v₁ ∷ []))) ⊛ raw
         (ensured 𝓛 may.ended (may.clauses 𝓛 mem run) tt (pl, (n, (length us, tt))) tt early)))) (id⊢ 𝓤 _) $ await ! tt $ pick ! (λ early.
-        split ! $ move ! (1 ∷ []) $ use1 𝓛 (raw (fact 𝓤 (early ≡ first (finishTests pl (length us) n) 0))) (said₁ early) $
-        heard ! (early ≡ first (finishTests pl (length us) n) 0) (λ ee. split ! $ move ! (1 ∷ []) $
+        split ! $ move ! (1 ∷ []) $ use1 𝓛 (raw (fact 𝓤 (early ≡ first (finish_tests pl (length us) n) 0))) (said₁ early) $
+        heard ! (early ≡ first (finish_tests pl (length us) n) 0) (λ ee. split ! $ move ! (1 ∷ []) $
         peeks ! u32 (Is u32) (shows 𝓛 u32) early (v₁ ∷ []) (λ is₁.
         land ! (from ! (stop !)) (init ! 22 refl ((uint_Lawful 𝓛 w32).typed early _ is₁).0) $ drop ! $
         rewrite ! 21 (λ (w : Val). ‵ (fat full_share (ty_int w32) l₆ 0 w)) (ap only is₁.0) refl $ drop ! $
@@ -316,7 +316,7 @@ module _ {M : Type 1} {𝓤 : Ura M} (𝓛 : Logic 𝓤) (mem : Memory → SProp
         (and_then ! (load ! (from ! (stop !)) (look ! 21 refl)) (no_more !))) (λ v₂.
         use1 𝓛 (later (some (λ (m : ℕ). (‵ ftrue ⊛ ‵ (usize.own_val m (v₂ ∷ []))) ⊛ raw
         (ensured 𝓛 passed.ended (passed.clauses 𝓛 mem run) tt (n, (early, tt)) tt m)))) (id⊢ 𝓤 _) $ await ! tt $ pick ! (λ m. split ! $
-        move ! (1 ∷ []) $ use1 𝓛 (raw (fact 𝓤 (m ≡ passedOf n early))) (said₂ early m) $ heard ! (m ≡ passedOf n early) (λ em. split ! $
+        move ! (1 ∷ []) $ use1 𝓛 (raw (fact 𝓤 (m ≡ passed_of n early))) (said₂ early m) $ heard ! (m ≡ passed_of n early) (λ em. split ! $
         move ! (1 ∷ []) $ peeks ! usize (Is usize) (shows 𝓛 usize) m (v₂ ∷ []) (λ is₂.
         land ! (from ! (stop !)) (init ! 20 refl ((uint_Lawful 𝓛 w64).typed m _ is₂).0) $ drop ! $
         rewrite ! 19 (λ (w : Val). ‵ (fat full_share (ty_int w64) l₇ 0 w)) (ap only is₂.0) refl $ drop ! $
@@ -334,15 +334,15 @@ module _ {M : Type 1} {𝓤 : Ura M} (𝓛 : Logic 𝓤) (mem : Memory → SProp
         owned ! P.the_row (Is P.the_row) (LL.makes P.the_type P'.the_plain 𝓛) pl (mach ∷ []) p $ fjoin ! $ move ! (5 ∷ 0 ∷ []) $ fjoin ! $
         move ! (1 ∷ 0 ∷ []) $ fjoin ! $ owned ! usize (Is usize) (uint_Makes 𝓛 w64) m _ (refl, is₂.1) $ fjoin ! $ move ! (2 ∷ 0 ∷ []) $
         fjoin ! $ nothing ! $ move ! (5 ∷ 0 ∷ []) $ join ! $ move ! (40 ∷ 0 ∷ []) $ join ! $ move ! (39 ∷ 0 ∷ []) $ join ! $
-        use2 𝓛 (raw ((CheckC 𝓛 mem run).pre (to₃ ν δ m))) (asked₃ ν δ m (held-le pl us n early ee m em)) $
+        use2 𝓛 (raw ((CheckC 𝓛 mem run).pre (to₃ ν δ m))) (asked₃ ν δ m (held_le pl us n early ee m em)) $
         calls_at ! fm (CheckC 𝓛 mem run) known₃ (to₃ ν δ m) (and_then ! (load ! (from ! (stop !)) (look ! 34 refl))
         (and_then ! (load ! (from ! (stop !)) (look ! 22 refl)) (and_then ! (load ! (from ! (stop !)) (look ! 30 refl))
         (and_then ! (load ! (from ! (stop !)) (look ! 10 refl)) (and_then ! (load ! (from ! (stop !)) (look ! 26 refl)) (no_more !)))))) (λ v₃.
         use1 𝓛 (later (some (λ (found : ℕ). ((‵ (flft κ q) ⊛ ‵ (flft κ' q') ⊛ ‵ (flft (ν ∷ []) full_share) ⊛ ‵ ftrue) ⊛ ‵ (u32.own_val found (v₃ ∷ [])))
         ⊛ raw (ensured 𝓛 check.ended (check.clauses 𝓛 mem run) (κ, (κ', ((ν ∷ []), tt))) (uref, (m, (lref, (wref δ, (pl, tt))))) tt
         found)))) (id⊢ 𝓤 _) $ await ! tt $ pick ! (λ found. split ! $ move ! (1 ∷ []) $
-        use1 𝓛 (raw (fact 𝓤 (found ≡ checkOf pl ls ws [] (take m us)))) (said₃ ν δ m found) $
-        heard ! (found ≡ checkOf pl ls ws [] (take m us)) (λ ef. split ! $ move ! (1 ∷ []) $
+        use1 𝓛 (raw (fact 𝓤 (found ≡ check_of pl ls ws [] (take m us)))) (said₃ ν δ m found) $
+        heard ! (found ≡ check_of pl ls ws [] (take m us)) (λ ef. split ! $ move ! (1 ∷ []) $
         peeks ! u32 (Is u32) (shows 𝓛 u32) found (v₃ ∷ []) (λ is₃.
         land ! (from ! (stop !)) (init ! 21 refl ((uint_Lawful 𝓛 w32).typed found _ is₃).0) $ drop ! $
         rewrite ! 20 (λ (w : Val). ‵ (fat full_share (ty_int w32) l₈ 0 w)) (ap only is₃.0) refl $ split ! $ move ! (1 ∷ []) $ split ! $
@@ -361,7 +361,7 @@ module _ {M : Type 1} {𝓤 : Ura M} (𝓛 : Logic 𝓤) (mem : Memory → SProp
         (and_then ! (load ! (from ! (stop !)) (look ! 17 refl)) (no_more !))) (λ v₄.
         use1 𝓛 (later (some (λ (r : ℕ). (‵ ftrue ⊛ ‵ (u32.own_val r (v₄ ∷ []))) ⊛ raw
         (ensured 𝓛 or.ended (or.clauses 𝓛 mem run) tt (early, (found, tt)) tt r)))) (id⊢ 𝓤 _) $ await ! tt $ pick ! (λ r. split ! $
-        move ! (1 ∷ []) $ use1 𝓛 (raw (fact 𝓤 (r ≡ orThen early found))) (said₄ early found r) $ heard ! (r ≡ orThen early found) (λ er. split ! $
+        move ! (1 ∷ []) $ use1 𝓛 (raw (fact 𝓤 (r ≡ or_else early found))) (said₄ early found r) $ heard ! (r ≡ or_else early found) (λ er. split ! $
         move ! (1 ∷ []) $ peeks ! u32 (Is u32) (shows 𝓛 u32) r (v₄ ∷ []) (λ is₄.
         land ! (from ! (stop !)) (init ! 16 refl ((uint_Lawful 𝓛 w32).typed r _ is₄).0) $ drop ! $
         rewrite ! 15 (λ (w : Val). ‵ (fat full_share (ty_int w32) l₉ 0 w)) (ap only is₄.0) refl $ drop ! $
@@ -373,7 +373,7 @@ module _ {M : Type 1} {𝓤 : Ura M} (𝓛 : Logic 𝓤) (mem : Memory → SProp
         (and_then ! (load ! (from ! (stop !)) (look ! 15 refl)) (no_more !))) (λ v₂.
         use1 𝓛 (later (some (λ (k : ℕ). (‵ ftrue ⊛ ‵ (usize.own_val k (v₂ ∷ []))) ⊛ raw
         (ensured 𝓛 passed.ended (passed.clauses 𝓛 mem run) tt (n, (r, tt)) tt k)))) (id⊢ 𝓤 _) $ await ! tt $ pick ! (λ k. split ! $
-        move ! (1 ∷ []) $ use1 𝓛 (raw (fact 𝓤 (k ≡ passedOf n r))) (said₂ r k) $ heard ! (k ≡ passedOf n r) (λ ek. split ! $ move ! (1 ∷ []) $
+        move ! (1 ∷ []) $ use1 𝓛 (raw (fact 𝓤 (k ≡ passed_of n r))) (said₂ r k) $ heard ! (k ≡ passed_of n r) (λ ek. split ! $ move ! (1 ∷ []) $
         peeks ! usize (Is usize) (shows 𝓛 usize) k (v₂ ∷ []) (λ is₅.
         land ! (from ! (stop !)) (init ! 14 refl ((uint_Lawful 𝓛 w64).typed k _ is₅).0) $ drop ! $
         rewrite ! 13 (λ (w : Val). ‵ (fat full_share (ty_int w64) l₁₀ 0 w)) (ap only is₅.0) refl $ drop ! $
@@ -409,7 +409,7 @@ module _ {M : Type 1} {𝓤 : Ura M} (𝓛 : Logic 𝓤) (mem : Memory → SProp
         (and_then ! (load ! (from ! (stop !)) (look ! 20 refl)) (no_more !))) (λ v₆.
         use1 𝓛 (later (some (λ (c : Counted). (‵ ftrue ⊛ ‵ ((E.the_row).own_val c (v₆ ∷ []))) ⊛ raw
         (ensured 𝓛 ans.ended (ans.clauses 𝓛 mem run) tt (0, (r, tt)) tt c)))) (id⊢ 𝓤 _) $ await ! tt $ pick ! (λ c. split ! $
-        move ! (1 ∷ []) $ use1 𝓛 (raw (fact 𝓤 (countSaid c ≡ countedOf 0 r))) (said₆ r c) $ heard ! (countSaid c ≡ countedOf 0 r) (λ ec. split ! $
+        move ! (1 ∷ []) $ use1 𝓛 (raw (fact 𝓤 (count_said c ≡ counted_of 0 r))) (said₆ r c) $ heard ! (count_said c ≡ counted_of 0 r) (λ ec. split ! $
         move ! (1 ∷ []) $ peeks ! E.the_row (Is E.the_row) (shows 𝓛 E.the_row) c (v₆ ∷ []) (λ is₆.
         land ! (from ! (stop !)) (init ! 39 refl ((EL.lawful E.the_type E'.the_laws 𝓛 tt).typed c _ is₆).0) $ returns ! (look ! 39 refl) $
         forget ! 7 refl $ forget ! 9 refl $ forget ! 11 refl $ forget ! 13 refl $ forget ! 15 refl $ forget ! 17 refl $ forget ! 19 refl $
@@ -420,15 +420,15 @@ module _ {M : Type 1} {𝓤 : Ura M} (𝓛 : Logic 𝓤) (mem : Memory → SProp
         move ! (19 ∷ 20 ∷ []) $ free1 ! $ move ! (17 ∷ 18 ∷ []) $ free1 ! $ move ! (15 ∷ 16 ∷ []) $ free1 ! $ move ! (13 ∷ 14 ∷ []) $ free1 ! $
         move ! (11 ∷ 12 ∷ []) $ free1 ! $ move ! (9 ∷ 10 ∷ []) $ free1 ! $ move ! (7 ∷ 8 ∷ []) $ free1 ! $ free0 ! $
         keep ! (0 ∷ 3 ∷ 2 ∷ 6 ∷ 5 ∷ []) $
-        by ! (exits c v₆ zs.1.1.1.0 l (finish-thin pl ls ws us n early m found r k ee em ef er ek zs.1.1.1.0 (countSaid c) ez
+        by ! (exits c v₆ zs.1.1.1.0 l (finish_thin pl ls ws us n early m found r k ee em ef er ek zs.1.1.1.0 (count_said c) ez
         ec)))))))))))))))))))))))))))))))))))))))))))))))))))
 
 module _ {M : Type 1} {𝓤 : Ura M} (𝓛 : Logic 𝓤) (mem : Memory → SProp 𝓤) (run : Routine → Fun 𝓤) where
   open 𝓛 use {H}
 
-  fs-walks : (C : Calls 𝓤 H) (Λ : Loops 𝓤 H) → FmC 𝓤 H 𝓛.laws C → Known 𝓛 mem run C → Walks 𝓛 fs.ended stayed
+  fs_walks : (C : Calls 𝓤 H) (Λ : Loops 𝓤 H) → FmC 𝓤 H 𝓛.laws C → Known 𝓛 mem run C → Walks 𝓛 fs.ended stayed
       (WpFn 𝓤 H C Λ code.function) (fs.clauses 𝓛 mem run)
-  fs-walks C Λ fm known = walked 𝓛 fs.ended stayed (fs.clauses 𝓛 mem run) (WpFn 𝓤 H C Λ code.function)
+  fs_walks C Λ fm known = walked 𝓛 fs.ended stayed (fs.clauses 𝓛 mem run) (WpFn 𝓤 H C Λ code.function)
       (λ κs. (shr_slice_vals, (uint_vals w64, (shr_slice_vals, (shr_slice_vals, (LL.vals P.the_type P'.the_laws, tt))))))
       (λ κs. (
         shr_slice_Tells (named 0) κs.0 T.the_row,
@@ -443,10 +443,10 @@ module _ {M : Type 1} {𝓤 : Ura M} (𝓛 : Logic 𝓤) (mem : Memory → SProp
       a.1.1.1.0.ref_ptr.0 a.1.1.1.0.ref_ptr.1 a.1.1.1.0.ghost_name a.1.1.1.0.now a.1.1.1.1.0 are.0.0.1 are.1.0.1
       are.1.1.0.0.1 are.1.1.1.0.0.1 C Λ fm known are.1.1.1.1.0))
 
-fs-meets : {M : Type 1} {𝓤 : Ura M} (𝓛 : Logic 𝓤) → (mem : Memory → SProp 𝓤) (run : Routine → Fun 𝓤) (𝓣 : Tables 𝓤 𝓛.H) →
+fs_meets : {M : Type 1} {𝓤 : Ura M} (𝓛 : Logic 𝓤) → (mem : Memory → SProp 𝓤) (run : Routine → Fun 𝓤) (𝓣 : Tables 𝓤 𝓛.H) →
     Known 𝓛 mem run 𝓣.C
     → Meets 𝓛 fs.signature (WpFn 𝓤 𝓛.H 𝓣.C 𝓣.Λ code.function) (fs.spec 𝓛 mem run)
-fs-meets {𝓤 = 𝓤} 𝓛 mem run 𝓣 known = walk_Meets 𝓛 fs.ended stayed (
+fs_meets {𝓤 = 𝓤} 𝓛 mem run 𝓣 known = walk_Meets 𝓛 fs.ended stayed (
   Goes-none_slice 𝓛 3 (0 ∷ []) tt (plain (λ _. T.the_row)) yes,
   (
     Goes-none 𝓛 3 (λ _. usize) yes (λ κs x f. refl),
@@ -458,30 +458,30 @@ fs-meets {𝓤 = 𝓤} 𝓛 mem run 𝓣 known = walk_Meets 𝓛 fs.ended stayed
 )
     (fs.clauses 𝓛 mem run)
     (WpFn 𝓤 𝓛.H 𝓣.C 𝓣.Λ code.function) (WpFn-mono 𝓤 𝓛.H 𝓛.laws 𝓣 code.function)
-    (fs-walks 𝓛 mem run 𝓣.C 𝓣.Λ (fm_of 𝓤 𝓛.H 𝓛.laws 𝓣) known)
+    (fs_walks 𝓛 mem run 𝓣.C 𝓣.Λ (fm_of 𝓤 𝓛.H 𝓛.laws 𝓣) known)
 
 pub finish_spec : {M : Type 1} → stated.statement M
 unfolding code.routine tables_of
 finish_spec 𝓤 𝓛 𝓜 𝓡 =
     entered 𝓤 𝓛.H (triple_of 𝓛 fs.signature (fs.spec 𝓛 𝓜.mem 𝓡.run))
     (tables 𝓤 𝓛.H 𝓜 𝓡 code.env).C (tables 𝓤 𝓛.H 𝓜 𝓡 code.env).Λ #label-sheets·finish code.function (code.unfolded 𝓤 𝓛.H 𝓜 𝓡)
-    (fs-meets 𝓛 𝓜.mem 𝓡.run (tables_of 𝓤 𝓛.H 𝓜 (tables 𝓤 𝓛.H 𝓜 𝓡 code.env)) (
-      cited 𝓤 𝓛.H (MayC 𝓛 𝓜.mem 𝓡.run) 𝓜 𝓡 code.env #labels·may-finish may-def.routine code.calls-labels::may-finish
-          (may-thm.met 𝓤 𝓛 𝓜 𝓡),
+    (fs_meets 𝓛 𝓜.mem 𝓡.run (tables_of 𝓤 𝓛.H 𝓜 (tables 𝓤 𝓛.H 𝓜 𝓡 code.env)) (
+      cited 𝓤 𝓛.H (MayC 𝓛 𝓜.mem 𝓡.run) 𝓜 𝓡 code.env #labels·may-finish may_def.routine code.calls-labels::may-finish
+          (may_thm.met 𝓤 𝓛 𝓜 𝓡),
       (
-        cited 𝓤 𝓛.H (PassedC 𝓛 𝓜.mem 𝓡.run) 𝓜 𝓡 code.env #label-sheets·passed passed-def.routine
-            code.calls-label-sheets::passed (passed-thm.met 𝓤 𝓛 𝓜 𝓡),
+        cited 𝓤 𝓛.H (PassedC 𝓛 𝓜.mem 𝓡.run) 𝓜 𝓡 code.env #label-sheets·passed passed_def.routine
+            code.calls-label-sheets::passed (passed_thm.met 𝓤 𝓛 𝓜 𝓡),
         (
           cited 𝓤 𝓛.H (CheckC 𝓛 𝓜.mem 𝓡.run) 𝓜 𝓡 code.env
-              #label-sheets·check-uses check-def.routine code.calls-label-sheets::check-uses (check-thm.met 𝓤 𝓛 𝓜 𝓡),
+              #label-sheets·check-uses check_def.routine code.calls-label-sheets::check-uses (check_thm.met 𝓤 𝓛 𝓜 𝓡),
           (
-            cited 𝓤 𝓛.H (OrC 𝓛 𝓜.mem 𝓡.run) 𝓜 𝓡 code.env #label-sheets·or-then or-def.routine code.calls-label-sheets::or-then
-                (or-thm.met 𝓤 𝓛 𝓜 𝓡),
+            cited 𝓤 𝓛.H (OrC 𝓛 𝓜.mem 𝓡.run) 𝓜 𝓡 code.env #label-sheets·or-then or_def.routine code.calls-label-sheets::or-then
+                (or_thm.met 𝓤 𝓛 𝓜 𝓡),
             (
               cited 𝓤 𝓛.H (WriteC 𝓛 𝓜.mem 𝓡.run) 𝓜 𝓡 code.env #label-sheets·write-uses write_def.routine
                   code.calls-label-sheets::write-uses (write_thm.met 𝓤 𝓛 𝓜 𝓡),
               cited 𝓤 𝓛.H (AnsC 𝓛 𝓜.mem 𝓡.run) 𝓜 𝓡 code.env #labels·answered
-                  ans-def.routine code.calls-labels::answered (ans-thm.met 𝓤 𝓛 𝓜 𝓡),
+                  ans_def.routine code.calls-labels::answered (ans_thm.met 𝓤 𝓛 𝓜 𝓡),
             ),
           ),
         ),

@@ -51,7 +51,7 @@ use denote.Exit.{yes}
 use Rattle.labels.specs.Sheet.{names}
 use Rattle.labels.specs.declared.Use.{Use}
 use Rattle.labels.proofs.Finishing.{none}
-use Rattle.labels.proofs.Turns.{names-on, names-hit, names-end}
+use Rattle.labels.proofs.Turns.{names_on, names_hit, names_end}
 use Rattle.labels.specs.contracts.Use as T
 use Rattle.labels.proofs.Use.TheLaws as T'
 use Rattle.label_sheets.proofs.Steps.{rest, differs}
@@ -67,8 +67,8 @@ stayed = (stay_none_slice (0 ∷ []) tt (plain (λ _. T.the_row)) yes, (stay_non
 abbrev word : Ty
 word = ty_int w64
 
-abbrev uses-ty : Ty
-uses-ty = slice_ty (ty_ref (named 0) imm (pointee (T.the_row).written))
+abbrev uses_ty : Ty
+uses_ty = slice_ty (ty_ref (named 0) imm (pointee (T.the_row).written))
 
 module _ {M : Type 1} {𝓤 : Ura M} (𝓛 : Logic 𝓤) (mem : Memory → SProp 𝓤) (run : Routine → Fun 𝓤)
     (κ : Lft) (q : Share) (b o : ℕ) (γ : GName) (us : List Use) (m k : ℕ)
@@ -120,7 +120,7 @@ module _ {M : Type 1} {𝓤 : Ura M} (𝓛 : Logic 𝓤) (mem : Memory → SProp
     Λ = 𝓣.Λ
 
     abbrev En : Env 𝓤 H
-    En = (ty_bool, l₀) ∷ (uses-ty, l₁) ∷ (word, l₂) ∷ (word, l₃) ∷ (word, l₄) ∷ (ty_bool, l₅) ∷ (word, l₆) ∷ (ty_ptr, l₇) ∷ (word, l₈) ∷ []
+    En = (ty_bool, l₀) ∷ (uses_ty, l₁) ∷ (word, l₂) ∷ (word, l₃) ∷ (word, l₄) ∷ (ty_bool, l₅) ∷ (word, l₆) ∷ (ty_ptr, l₇) ∷ (word, l₈) ∷ []
 
     -- local j stands at 2 * (8 - j) + 1
     abbrev At : Upto → List (Item 𝓤)
@@ -128,7 +128,7 @@ module _ {M : Type 1} {𝓤 : Ura M} (𝓛 : Logic 𝓤) (mem : Memory → SProp
         ‵ (row T.the_row s us b o) ∷ ‵ (froom word l₈ 0) ∷ ‵ (fdies word l₈) ∷ ‵ (froom ty_ptr l₇ 0) ∷ ‵ (fdies ty_ptr l₇)
         ∷ ‵ (froom word l₆ 0) ∷ ‵ (fdies word l₆) ∷ ‵ (froom ty_bool l₅ 0) ∷ ‵ (fdies ty_bool l₅)
         ∷ ‵ (fat full_share word l₄ 0 (vint w64 i.0)) ∷ ‵ (fdies word l₄) ∷ ‵ (fat full_share word l₃ 0 (vint w64 k)) ∷ ‵ (fdies word l₃)
-        ∷ ‵ (fat full_share word l₂ 0 (vint w64 m)) ∷ ‵ (fdies word l₂) ∷ ‵ (fat full_share uses-ty l₁ 0 su) ∷ ‵ (fdies uses-ty l₁)
+        ∷ ‵ (fat full_share word l₂ 0 (vint w64 m)) ∷ ‵ (fdies word l₂) ∷ ‵ (fat full_share uses_ty l₁ 0 su) ∷ ‵ (fdies uses_ty l₁)
         ∷ ‵ (froom ty_bool l₀ 0) ∷ ‵ (fdies ty_bool l₀) ∷ ‵ (fobor κ q ((arr_parts (shares T.the_row) (length us)).part s us b o)) ∷ ‵ Shr ∷ ‵ Num ∷ []
 
     abbrev Turned : Upto → Out → SProp 𝓤
@@ -159,17 +159,17 @@ module _ {M : Type 1} {𝓤 : Ura M} (𝓛 : Logic 𝓤) (mem : Memory → SProp
         forget ! 7 refl $ forget ! 9 refl $ forget ! 11 refl $ forget ! 13 refl $ forget ! 15 refl $ forget ! 17 refl $
         move ! (17 ∷ 18 ∷ []) $ free1 ! $ move ! (15 ∷ 16 ∷ []) $ free1 ! $ move ! (13 ∷ 14 ∷ []) $ free1 ! $ move ! (11 ∷ 12 ∷ []) $ free1 ! $
         move ! (9 ∷ 10 ∷ []) $ free1 ! $ move ! (7 ∷ 8 ∷ []) $ free1 ! $ move ! (5 ∷ 6 ∷ []) $ free1 ! $ move ! (3 ∷ 4 ∷ []) $ free1 ! $
-        move ! (1 ∷ 2 ∷ []) $ free1 ! $ free0 ! $ by ! (exits true (sym (i.1.1 ∙ names-hit k m us room i.0 h (eqb→eq u.at k is)))))
+        move ! (1 ∷ 2 ∷ []) $ free1 ! $ free0 ! $ by ! (exits true (sym (i.1.1 ∙ names_hit k m us room i.0 h (eqb→eq u.at k is)))))
         (λ not-it. skips ! $ exec ! C Λ En (rest (rest (rest (rest (rest (rest (rest turn-1))))))) (any_q (Turned i)) $
         assigns_last ! (bin ! (load ! (from ! (stop !)) (look ! 9 refl)) (lit ! tt) (record { fits = omega (arith, gn.0) })) (from ! (stop !))
         (store ! 9 refl (tt, record { fits = omega (arith, gn.0) })) $ forget ! 1 refl $ forget ! 3 refl $ forget ! 5 refl $ forget ! 7 refl $
-        again ! Nearer At i (i.0 + 1, (add-one-le h, i.1.1 ∙ names-on k m us room i.0 h (differs u.at k not-it))) (omega arith))))
+        again ! Nearer At i (i.0 + 1, (add-one-le h, i.1.1 ∙ names_on k m us room i.0 h (differs u.at k not-it))) (omega arith))))
         (λ over. jumps ! $ exec ! C Λ En t-3 (at_ret En Post) $ assigns ! (of_opd ! (false_lit !)) (from ! (stop !)) (init ! 17 refl (tt, tt)) $
         move ! (0 ∷ 19 ∷ []) $ shuts_slice ! tt T.the_row s us b o $ returns ! (look ! 17 refl) $ forget ! 7 refl $ forget ! 9 refl $
         forget ! 11 refl $ forget ! 13 refl $ forget ! 15 refl $ forget ! 17 refl $ move ! (17 ∷ 18 ∷ []) $ free1 ! $
         move ! (15 ∷ 16 ∷ []) $ free1 ! $ move ! (13 ∷ 14 ∷ []) $ free1 ! $ move ! (11 ∷ 12 ∷ []) $ free1 ! $ move ! (9 ∷ 10 ∷ []) $ free1 ! $
         move ! (7 ∷ 8 ∷ []) $ free1 ! $ move ! (5 ∷ 6 ∷ []) $ free1 ! $ move ! (3 ∷ 4 ∷ []) $ free1 ! $ move ! (1 ∷ 2 ∷ []) $ free1 ! $ free0 ! $
-        by ! (exits false (sym (i.1.1 ∙ names-end k m us room i.0 (nltb→le i.0 m over)))))
+        by ! (exits false (sym (i.1.1 ∙ names_end k m us room i.0 (nltb→le i.0 m over)))))
 
   walk : (𝓣 : Tables 𝓤 H) → ent 𝓤 (on_entry 𝓛 nm.signature (κ, tt) (q, tt) x at)
       (WpFn 𝓤 H 𝓣.C 𝓣.Λ code.function (su ∷ vint w64 m ∷ vint w64 k ∷ []) Post)
@@ -190,28 +190,28 @@ module _ {M : Type 1} {𝓤 : Ura M} (𝓛 : Logic 𝓤) (mem : Memory → SProp
 module _ {M : Type 1} {𝓤 : Ura M} (𝓛 : Logic 𝓤) (mem : Memory → SProp 𝓤) (run : Routine → Fun 𝓤) where
   open 𝓛 use {H}
 
-  nm-walks : (𝓣 : Tables 𝓤 H) → Walks 𝓛 nm.ended stayed (WpFn 𝓤 H 𝓣.C 𝓣.Λ code.function) (nm.clauses 𝓛 mem run)
-  nm-walks 𝓣 = walked 𝓛 nm.ended stayed (nm.clauses 𝓛 mem run) (WpFn 𝓤 H 𝓣.C 𝓣.Λ code.function)
+  nm_walks : (𝓣 : Tables 𝓤 H) → Walks 𝓛 nm.ended stayed (WpFn 𝓤 H 𝓣.C 𝓣.Λ code.function) (nm.clauses 𝓛 mem run)
+  nm_walks 𝓣 = walked 𝓛 nm.ended stayed (nm.clauses 𝓛 mem run) (WpFn 𝓤 H 𝓣.C 𝓣.Λ code.function)
       (λ κs. (shr_slice_vals, (uint_vals w64, (uint_vals w64, tt))))
       (λ κs. (shr_slice_Tells (named 0) κs.0 T.the_row, (uint_Tells w64, (uint_Tells w64, tt))))
       (λ κs qs bounds a g are. needs 𝓤 _ _ (λ room.
       walk 𝓛 mem run κs.0 qs.0 a.0.ref_ptr.0 a.0.ref_ptr.1 0 a.0.now a.1.0 a.1.1.0
       are.0.0.1 are.1.0.1 are.1.1.0.1 room 𝓣))
 
-nm-meets : {M : Type 1} {𝓤 : Ura M} (𝓛 : Logic 𝓤) → (mem : Memory → SProp 𝓤) (run : Routine → Fun 𝓤) (𝓣 : Tables 𝓤 𝓛.H)
+nm_meets : {M : Type 1} {𝓤 : Ura M} (𝓛 : Logic 𝓤) → (mem : Memory → SProp 𝓤) (run : Routine → Fun 𝓤) (𝓣 : Tables 𝓤 𝓛.H)
     → Meets 𝓛 nm.signature (WpFn 𝓤 𝓛.H 𝓣.C 𝓣.Λ code.function) (nm.spec 𝓛 mem run)
-nm-meets {𝓤 = 𝓤} 𝓛 mem run 𝓣 = walk_Meets 𝓛 nm.ended stayed (
+nm_meets {𝓤 = 𝓤} 𝓛 mem run 𝓣 = walk_Meets 𝓛 nm.ended stayed (
   Goes-none_slice 𝓛 1 (0 ∷ []) tt (plain (λ _. T.the_row)) yes,
   (
     Goes-none 𝓛 1 (λ _. usize) yes (λ κs x f. refl),
     (Goes-none 𝓛 1 (λ _. usize) yes (λ κs x f. refl), tt),
   ),
 ) (nm.clauses 𝓛 mem run)
-    (WpFn 𝓤 𝓛.H 𝓣.C 𝓣.Λ code.function) (WpFn-mono 𝓤 𝓛.H 𝓛.laws 𝓣 code.function) (nm-walks 𝓛 mem run 𝓣)
+    (WpFn 𝓤 𝓛.H 𝓣.C 𝓣.Λ code.function) (WpFn-mono 𝓤 𝓛.H 𝓛.laws 𝓣 code.function) (nm_walks 𝓛 mem run 𝓣)
 
-pub named-spec : {M : Type 1} → stated.statement M
+pub named_spec : {M : Type 1} → stated.statement M
 unfolding code.routine tables_of
-named-spec 𝓤 𝓛 𝓜 𝓡 =
+named_spec 𝓤 𝓛 𝓜 𝓡 =
     entered 𝓤 𝓛.H (triple_of 𝓛 nm.signature (nm.spec 𝓛 𝓜.mem 𝓡.run))
     (tables 𝓤 𝓛.H 𝓜 𝓡 code.env).C (tables 𝓤 𝓛.H 𝓜 𝓡 code.env).Λ #label-sheets·named code.function (code.unfolded 𝓤 𝓛.H 𝓜 𝓡)
-    (nm-meets 𝓛 𝓜.mem 𝓡.run (tables_of 𝓤 𝓛.H 𝓜 (tables 𝓤 𝓛.H 𝓜 𝓡 code.env)))
+    (nm_meets 𝓛 𝓜.mem 𝓡.run (tables_of 𝓤 𝓛.H 𝓜 (tables 𝓤 𝓛.H 𝓜 𝓡 code.env)))

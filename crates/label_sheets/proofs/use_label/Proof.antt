@@ -51,32 +51,32 @@ use Rattle.words.specs.contracts.Place as P
 use Rattle.words.proofs.Place.TheLaws as P'
 use Rattle.labels.specs.declared.Use.{Use}
 use Rattle.labels.specs.declared.Counted.{Counted}
-use Rattle.labels.specs.Sheet.{roomIn, names, useAt, mayUse, useOf, countSaid}
+use Rattle.labels.specs.Sheet.{room_for, names, use_record, use_refusal, use_of, count_said}
 use Rattle.labels.specs.contracts.Use as T
 use Rattle.labels.proofs.Use.TheLaws as T'
 use Rattle.labels.specs.contracts.Counted as E
 use Rattle.labels.proofs.Counted.TheLaws as E'
 use Rattle.labels.proofs.Finishing.{none}
-use Rattle.label_sheets.specs.Private.{addedOf}
+use Rattle.label_sheets.specs.Private.{added_of}
 use Rattle.label_sheets.proofs.Steps.{differs}
 use Rattle.label_sheets.proofs.Shared.{LentShared, lends_shared, shared_back}
-use Rattle.label_sheets.proofs.Thin.{use-fits, use-taken, use_kept}
+use Rattle.label_sheets.proofs.Thin.{use_fits, use_taken, use_kept}
 use Rattle.label_sheets.specs.contracts.use_at as make
 use Rattle.label_sheets.proofs.use_at.Symbol as make_def
 use Rattle.label_sheets.proofs.use_at.Symbol.{name as #label-sheets·use-at}
 use Rattle.label_sheets.proofs.use_at.Met as make_thm
 use Rattle.words.specs.contracts.least as least
-use Rattle.words.proofs.least.Symbol as least-def
+use Rattle.words.proofs.least.Symbol as least_def
 use Rattle.words.proofs.least.Symbol.{name as #words·least}
-use Rattle.words.proofs.least.Met as least-thm
+use Rattle.words.proofs.least.Met as least_thm
 use Rattle.label_sheets.specs.contracts.named as scan
-use Rattle.label_sheets.proofs.named.Symbol as scan-def
+use Rattle.label_sheets.proofs.named.Symbol as scan_def
 use Rattle.label_sheets.proofs.named.Symbol.{name as #label-sheets·named}
-use Rattle.label_sheets.proofs.named.Met as scan-thm
+use Rattle.label_sheets.proofs.named.Met as scan_thm
 use Rattle.label_uses.specs.contracts.may_use as may
-use Rattle.label_uses.proofs.may_use.Symbol as may-def
+use Rattle.label_uses.proofs.may_use.Symbol as may_def
 use Rattle.label_uses.proofs.may_use.Symbol.{name as #label-uses·may-use}
-use Rattle.label_uses.proofs.may_use.Met as may-thm
+use Rattle.label_uses.proofs.may_use.Met as may_thm
 use Rattle.label_sheets.specs.contracts.added as add
 use Rattle.label_sheets.proofs.added.Symbol as add_def
 use Rattle.label_sheets.proofs.added.Symbol.{name as #label-sheets·added}
@@ -103,14 +103,14 @@ stayed = (
 )
 
 -- the sheet, and as it is lent to the scan
-abbrev uses-ty : Ty
-uses-ty = slice_ty (ty_ref (named 0) mut (pointee (T.the_row).written))
+abbrev uses_ty : Ty
+uses_ty = slice_ty (ty_ref (named 0) mut (pointee (T.the_row).written))
 
-abbrev lent-ptr : Ty
-lent-ptr = ty_ref erased imm (pointee (T.the_row).written)
+abbrev lent_ptr : Ty
+lent_ptr = ty_ref erased imm (pointee (T.the_row).written)
 
-abbrev lent-ty : Ty
-lent-ty = slice_ty lent-ptr
+abbrev lent_ty : Ty
+lent_ty = slice_ty lent_ptr
 
 module _ {M : Type 1} {𝓤 : Ura M} (𝓛 : Logic 𝓤) (mem : Memory → SProp 𝓤) (run : Routine → Fun 𝓤) where
   -- the contracts that the proof cites
@@ -195,8 +195,8 @@ module _ {M : Type 1} {𝓤 : Ura M} (𝓛 : Logic 𝓤) (mem : Memory → SProp
   asked₁ : ent 𝓤 (⋆ 𝓛 (‵ ftrue ∷ ‵ (owns (u32 ∷ P.the_row ∷ u32 ∷ []) (lb, (pl, (ft, tt))) vals₁) ∷ [])) ((MakeC 𝓛 mem run).pre to₁)
   asked₁ = qed 𝓛 (‵ ftrue ∷ ‵ (owns (u32 ∷ P.the_row ∷ u32 ∷ []) (lb, (pl, (ft, tt))) vals₁) ∷ []) ∵ join ! $ frame ! $ done !
 
-  said₁ : (y : Use) → ent 𝓤 (ensured 𝓛 make.ended (make.clauses 𝓛 mem run) tt (lb, (pl, (ft, tt))) tt y) (fact 𝓤 (y ≡ useAt lb pl ft))
-  said₁ y = ex_e 𝓤 _ (λ vs. snd∗ 𝓤 (sem 𝓛 (lasts make.ended tt (lb, (pl, (ft, tt))) vs)) (fact 𝓤 (y ≡ useAt lb pl ft)))
+  said₁ : (y : Use) → ent 𝓤 (ensured 𝓛 make.ended (make.clauses 𝓛 mem run) tt (lb, (pl, (ft, tt))) tt y) (fact 𝓤 (y ≡ use_record lb pl ft))
+  said₁ y = ex_e 𝓤 _ (λ vs. snd∗ 𝓤 (sem 𝓛 (lasts make.ended tt (lb, (pl, (ft, tt))) vs)) (fact 𝓤 (y ≡ use_record lb pl ft)))
 
   -- how many are looked through
   abbrev vals₂ : Vals least.signature tt
@@ -245,9 +245,9 @@ module _ {M : Type 1} {𝓤 : Ura M} (𝓛 : Logic 𝓤) (mem : Memory → SProp
       (lref, (wref, (pl, (u, (a, (n, (length us, tt))))))) (vals₄ u a)) ∷ []) ∵ join ! $ frame ! $ done !
 
   said₄ : (u : Use) (a : Bool) (y : ℕ) → ent 𝓤 (ensured 𝓛 may.ended (may.clauses 𝓛 mem run) (κ', (κ'', tt))
-      (lref, (wref, (pl, (u, (a, (n, (length us, tt))))))) tt y) (fact 𝓤 (y ≡ mayUse ls ws pl u a (roomIn (length us) (n + 1))))
+      (lref, (wref, (pl, (u, (a, (n, (length us, tt))))))) tt y) (fact 𝓤 (y ≡ use_refusal ls ws pl u a (room_for (length us) (n + 1))))
   said₄ u a y = ex_e 𝓤 _ (λ vs. snd∗ 𝓤 (sem 𝓛 (lasts may.ended (κ', (κ'', tt)) (lref, (wref, (pl, (u, (a, (n, (length us, tt))))))) vs))
-      (fact 𝓤 (y ≡ mayUse ls ws pl u a (roomIn (length us) (n + 1)))))
+      (fact 𝓤 (y ≡ use_refusal ls ws pl u a (room_for (length us) (n + 1)))))
 
   -- the answer
   abbrev vals₅ : (r : ℕ) → Vals add.signature tt
@@ -260,11 +260,11 @@ module _ {M : Type 1} {𝓤 : Ura M} (𝓛 : Logic 𝓤) (mem : Memory → SProp
   asked₅ r = qed 𝓛 (‵ ftrue ∷ ‵ (owns (usize ∷ u32 ∷ []) (n, (r, tt)) (vals₅ r)) ∷ []) ∵ join ! $ frame ! $ done !
 
   said₅ : (r : ℕ) (y : Counted) → ent 𝓤 (ensured 𝓛 add.ended (add.clauses 𝓛 mem run) tt (n, (r, tt)) tt y)
-      (fact 𝓤 (countSaid y ≡ addedOf n r))
-  said₅ r y = ex_e 𝓤 _ (λ vs. snd∗ 𝓤 (sem 𝓛 (lasts add.ended tt (n, (r, tt)) vs)) (fact 𝓤 (countSaid y ≡ addedOf n r)))
+      (fact 𝓤 (count_said y ≡ added_of n r))
+  said₅ r y = ex_e 𝓤 _ (λ vs. snd∗ 𝓤 (sem 𝓛 (lasts add.ended tt (n, (r, tt)) vs)) (fact 𝓤 (count_said y ≡ added_of n r)))
 
   module _ (C : Calls 𝓤 H) (Λ : Loops 𝓤 H) (fm : FmC 𝓤 H 𝓛.laws C) (known : Known 𝓛 mem run C) (p : Is P.the_row pl (pmach ∷ [])) where
-    exits : (c : Counted) (w : Val) (zs : List Use) → length zs ≡ length us → (countSaid c, zs) ≡ useOf ls ws us n pl (useAt lb pl ft)
+    exits : (c : Counted) (w : Val) (zs : List Use) → length zs ≡ length us → (count_said c, zs) ≡ use_of ls ws us n pl (use_record lb pl ft)
         → ent 𝓤 (⋆ 𝓛 (‵ ((E.the_row).own_val c (w ∷ [])) ∷ ‵ (MutU zs) ∷ ‵ (flft κ q) ∷ ‵ (flft κ' q') ∷ ‵ (flft κ'' q'') ∷ ‵ ShrL ∷ ‵ ShrW ∷ []))
         (Post w)
     exits c w zs l e =
@@ -281,24 +281,24 @@ module _ {M : Type 1} {𝓤 : Ura M} (𝓛 : Logic 𝓤) (mem : Memory → SProp
     module _ (τ₀ τ₃ τ₄ τ₅ τ₆ τ₇ : Ty) (typed : (c : Counted) (v : Val) → Is E.the_row c (v ∷ []) → Holds (has_ty τ₀ v) × WT v)
         (l₀ l₁ l₂ l₃ l₄ l₅ l₆ l₇ l₈ l₉ l₁₀ l₁₁ l₁₂ l₁₃ l₁₄ l₁₅ l₁₆ l₁₇ : ℕ) where
       abbrev En : List (Ty × ℕ)
-      En = (τ₀, l₀) ∷ (uses-ty, l₁) ∷ ((ty_int w64), l₂) ∷ (τ₃, l₃) ∷ (τ₄, l₄) ∷ (τ₅, l₅) ∷ (τ₆, l₆) ∷ (τ₇, l₇) ∷ (T'.mir, l₈) ∷ ((ty_int w64), l₉) ∷
-          ((ty_int w64), l₁₀) ∷ (ty_bool, l₁₁) ∷ ((ty_int w32), l₁₂) ∷ (lent-ptr, l₁₃) ∷ (lent-ty, l₁₄) ∷ (ty_bool, l₁₅) ∷ ((ty_int w64), l₁₆) ∷
+      En = (τ₀, l₀) ∷ (uses_ty, l₁) ∷ ((ty_int w64), l₂) ∷ (τ₃, l₃) ∷ (τ₄, l₄) ∷ (τ₅, l₅) ∷ (τ₆, l₆) ∷ (τ₇, l₇) ∷ (T'.mir, l₈) ∷ ((ty_int w64), l₉) ∷
+          ((ty_int w64), l₁₀) ∷ (ty_bool, l₁₁) ∷ ((ty_int w32), l₁₂) ∷ (lent_ptr, l₁₃) ∷ (lent_ty, l₁₄) ∷ (ty_bool, l₁₅) ∷ ((ty_int w64), l₁₆) ∷
           (ty_ptr, l₁₇)
           ∷ []
 
       -- what is answered
       module _ (r : ℕ) (gr : r < 2 ^ 32) (zs : List Use) (l : length zs ≡ length us)
-          (k : (c : Counted) → countSaid c ≡ addedOf n r → (countSaid c, zs) ≡ useOf ls ws us n pl (useAt lb pl ft)) where
+          (k : (c : Counted) → count_said c ≡ added_of n r → (count_said c, zs) ≡ use_of ls ws us n pl (use_record lb pl ft)) where
         abbrev AtAnswers : List (Item 𝓤)
         AtAnswers =
             ‵ (froom ty_ptr l₁₇ 0) ∷ ‵ (fdies ty_ptr l₁₇) ∷ ‵ (froom (ty_int w64) l₁₆ 0) ∷ ‵ (fdies (ty_int w64) l₁₆)
-            ∷ ‵ (froom ty_bool l₁₅ 0) ∷ ‵ (fdies ty_bool l₁₅) ∷ ‵ (froom lent-ty l₁₄ 0) ∷ ‵ (fdies lent-ty l₁₄)
-            ∷ ‵ (froom lent-ptr l₁₃ 0) ∷ ‵ (fdies lent-ptr l₁₃) ∷ ‵ (fat full_share (ty_int w32) l₁₂ 0 (vint w32 r)) ∷ ‵ (fdies (ty_int w32) l₁₂)
+            ∷ ‵ (froom ty_bool l₁₅ 0) ∷ ‵ (fdies ty_bool l₁₅) ∷ ‵ (froom lent_ty l₁₄ 0) ∷ ‵ (fdies lent_ty l₁₄)
+            ∷ ‵ (froom lent_ptr l₁₃ 0) ∷ ‵ (fdies lent_ptr l₁₃) ∷ ‵ (fat full_share (ty_int w32) l₁₂ 0 (vint w32 r)) ∷ ‵ (fdies (ty_int w32) l₁₂)
             ∷ ‵ (froom ty_bool l₁₁ 0) ∷ ‵ (fdies ty_bool l₁₁) ∷ ‵ (froom (ty_int w64) l₁₀ 0) ∷ ‵ (fdies (ty_int w64) l₁₀)
             ∷ ‵ (froom (ty_int w64) l₉ 0) ∷ ‵ (fdies (ty_int w64) l₉) ∷ ‵ (froom T'.mir l₈ 0) ∷ ‵ (fdies T'.mir l₈)
             ∷ ‵ (froom τ₇ l₇ 0) ∷ ‵ (fdies τ₇ l₇) ∷ ‵ (froom τ₆ l₆ 0) ∷ ‵ (fdies τ₆ l₆) ∷ ‵ (froom τ₅ l₅ 0) ∷ ‵ (fdies τ₅ l₅)
             ∷ ‵ (froom τ₄ l₄ 0) ∷ ‵ (fdies τ₄ l₄) ∷ ‵ (froom τ₃ l₃ 0) ∷ ‵ (fdies τ₃ l₃)
-            ∷ ‵ (fat full_share (ty_int w64) l₂ 0 (vint w64 n)) ∷ ‵ (fdies (ty_int w64) l₂) ∷ ‵ (froom uses-ty l₁ 0) ∷ ‵ (fdies uses-ty l₁)
+            ∷ ‵ (fat full_share (ty_int w64) l₂ 0 (vint w64 n)) ∷ ‵ (fdies (ty_int w64) l₂) ∷ ‵ (froom uses_ty l₁ 0) ∷ ‵ (fdies uses_ty l₁)
             ∷ ‵ (froom τ₀ l₀ 0) ∷ ‵ (fdies τ₀ l₀) ∷ ‵ (MutU zs) ∷ ‵ (flft κ q) ∷ ‵ ShrL ∷ ‵ (flft κ' q') ∷ ‵ ShrW ∷ ‵ (flft κ'' q'') ∷ []
 
         answers : Sq 𝓛 AtAnswers (runs C Λ En t-10 (at_ret En Post))
@@ -310,7 +310,7 @@ module _ {M : Type 1} {𝓤 : Ura M} (𝓛 : Logic 𝓤) (mem : Memory → SProp
             (and_then ! (load ! (from ! (stop !)) (look ! 31 refl)) (and_then ! (load ! (from ! (stop !)) (look ! 11 refl)) (no_more !))) (λ v₅.
             use1 𝓛 (later (some (λ (c : Counted). (‵ ftrue ⊛ ‵ ((E.the_row).own_val c (v₅ ∷ []))) ⊛ raw
             (ensured 𝓛 add.ended (add.clauses 𝓛 mem run) tt (n, (r, tt)) tt c)))) (id⊢ 𝓤 _) $ await ! tt $ pick ! (λ c. split ! $
-            move ! (1 ∷ []) $ use1 𝓛 (raw (fact 𝓤 (countSaid c ≡ addedOf n r))) (said₅ r c) $ heard ! (countSaid c ≡ addedOf n r) (λ ec. split ! $
+            move ! (1 ∷ []) $ use1 𝓛 (raw (fact 𝓤 (count_said c ≡ added_of n r))) (said₅ r c) $ heard ! (count_said c ≡ added_of n r) (λ ec. split ! $
             move ! (1 ∷ []) $ peeks ! E.the_row (Is E.the_row) (shows 𝓛 E.the_row) c (v₅ ∷ []) (λ is₅.
             land ! (from ! (stop !)) (init ! 36 refl (typed c v₅ is₅)) $ returns ! (look ! 36 refl) $ forget ! 12 refl $ forget ! 32 refl $
             forget ! 36 refl $ move ! (36 ∷ 37 ∷ []) $ free1 ! $ move ! (34 ∷ 35 ∷ []) $ free1 ! $ move ! (32 ∷ 33 ∷ []) $ free1 ! $
@@ -320,27 +320,27 @@ module _ {M : Type 1} {𝓤 : Ura M} (𝓛 : Logic 𝓤) (mem : Memory → SProp
             move ! (6 ∷ 7 ∷ []) $ free1 ! $ move ! (4 ∷ 5 ∷ []) $ free1 ! $ move ! (2 ∷ 3 ∷ []) $ free1 ! $ free0 ! $
             keep ! (0 ∷ 2 ∷ 3 ∷ 5 ∷ 7 ∷ 4 ∷ 6 ∷ []) $ by ! (exits c v₅ zs l (k c ec))))))
 
-      module _ (u : Use) (eu : u ≡ useAt lb pl ft) (t : Is T.the_row u (T'.lowered u ∷ [])) where
+      module _ (u : Use) (eu : u ≡ use_record lb pl ft) (t : Is T.the_row u (T'.lowered u ∷ [])) where
         -- the use is stored, or not
         module _ (m r : ℕ) (a : Bool) (em : m ≡ min n (length us)) (ea : a ≡ names u.at (take m us))
-            (er : r ≡ mayUse ls ws pl u a (roomIn (length us) (n + 1))) (gr : r < 2 ^ 32) where
+            (er : r ≡ use_refusal ls ws pl u a (room_for (length us) (n + 1))) (gr : r < 2 ^ 32) where
           abbrev AtDecides : List (Item 𝓤)
           AtDecides =
               ‵ (froom ty_ptr l₁₇ 0) ∷ ‵ (fdies ty_ptr l₁₇) ∷ ‵ (froom (ty_int w64) l₁₆ 0) ∷ ‵ (fdies (ty_int w64) l₁₆)
-              ∷ ‵ (froom ty_bool l₁₅ 0) ∷ ‵ (fdies ty_bool l₁₅) ∷ ‵ (froom lent-ty l₁₄ 0) ∷ ‵ (fdies lent-ty l₁₄)
-              ∷ ‵ (froom lent-ptr l₁₃ 0) ∷ ‵ (fdies lent-ptr l₁₃) ∷ ‵ (fat full_share (ty_int w32) l₁₂ 0 (vint w32 r)) ∷ ‵ (fdies (ty_int w32) l₁₂)
+              ∷ ‵ (froom ty_bool l₁₅ 0) ∷ ‵ (fdies ty_bool l₁₅) ∷ ‵ (froom lent_ty l₁₄ 0) ∷ ‵ (fdies lent_ty l₁₄)
+              ∷ ‵ (froom lent_ptr l₁₃ 0) ∷ ‵ (fdies lent_ptr l₁₃) ∷ ‵ (fat full_share (ty_int w32) l₁₂ 0 (vint w32 r)) ∷ ‵ (fdies (ty_int w32) l₁₂)
               ∷ ‵ (froom ty_bool l₁₁ 0) ∷ ‵ (fdies ty_bool l₁₁) ∷ ‵ (froom (ty_int w64) l₁₀ 0) ∷ ‵ (fdies (ty_int w64) l₁₀)
               ∷ ‵ (froom (ty_int w64) l₉ 0) ∷ ‵ (fdies (ty_int w64) l₉) ∷ ‵ (fat full_share T'.mir l₈ 0 (T'.lowered u)) ∷ ‵ (fdies T'.mir l₈)
               ∷ ‵ (froom τ₇ l₇ 0) ∷ ‵ (fdies τ₇ l₇) ∷ ‵ (froom τ₆ l₆ 0) ∷ ‵ (fdies τ₆ l₆) ∷ ‵ (froom τ₅ l₅ 0) ∷ ‵ (fdies τ₅ l₅)
               ∷ ‵ (froom τ₄ l₄ 0) ∷ ‵ (fdies τ₄ l₄) ∷ ‵ (froom τ₃ l₃ 0) ∷ ‵ (fdies τ₃ l₃)
-              ∷ ‵ (fat full_share (ty_int w64) l₂ 0 (vint w64 n)) ∷ ‵ (fdies (ty_int w64) l₂) ∷ ‵ (fat full_share uses-ty l₁ 0 su) ∷ ‵ (fdies uses-ty l₁)
+              ∷ ‵ (fat full_share (ty_int w64) l₂ 0 (vint w64 n)) ∷ ‵ (fdies (ty_int w64) l₂) ∷ ‵ (fat full_share uses_ty l₁ 0 su) ∷ ‵ (fdies uses_ty l₁)
               ∷ ‵ (froom τ₀ l₀ 0) ∷ ‵ (fdies τ₀ l₀) ∷ ‵ (MutU us) ∷ ‵ (flft κ q) ∷ ‵ ShrL ∷ ‵ (flft κ' q') ∷ ‵ ShrW ∷ ‵ (flft κ'' q'') ∷ []
 
           decides : Sq 𝓛 AtDecides (runs C Λ En t-8 (at_ret En Post))
           decides =
               assigns ! (bin ! (load ! (from ! (stop !)) (look ! 10 refl)) (lit ! tt) tt) (from ! (stop !)) (init ! 4 refl (tt, tt)) $
               first ! $ branches ! (load ! (from ! (stop !)) (look ! 4 refl))
-              (λ yes. let z = eqb→eq r 0 yes in let f = use-fits ls ws us n pl u m r a em ea er z in let times : n * 24 < 2 ^ 64 = omega
+              (λ yes. let z = eqb→eq r 0 yes in let f = use_fits ls ws us n pl u m r a em ea er z in let times : n * 24 < 2 ^ 64 = omega
               (arith, f, gn.1) in
               assigns ! (bin ! (load ! (from ! (stop !)) (look ! 30 refl)) (lit ! tt) (record { fits = times })) (from ! (stop !))
               (init ! 2 refl (tt, record { fits = times })) $
@@ -361,24 +361,24 @@ module _ {M : Type 1} {𝓤 : Ura M} (𝓛 : Logic 𝓤) (mem : Memory → SProp
               forget ! 2 refl $ forget ! 4 refl $ forget ! 6 refl $ forget ! 20 refl $ forget ! 34 refl $
               keep ! (2 ∷ 3 ∷ 4 ∷ 5 ∷ 6 ∷ 7 ∷ 8 ∷ 9 ∷ 10 ∷ 11 ∷ 12 ∷ 13 ∷ 14 ∷ 15 ∷ 16 ∷ 17 ∷ 18 ∷ 19 ∷ 20 ∷ 21 ∷ 22 ∷ 23 ∷ 24 ∷ 25 ∷ 26 ∷ 27 ∷ 28 ∷
               29 ∷ 30 ∷ 31 ∷ 32 ∷ 33 ∷ 34 ∷ 35 ∷ 36 ∷ 37 ∷ 0 ∷ 1 ∷ 38 ∷ 39 ∷ 40 ∷ 41 ∷ []) $
-              answers r gr (set us n u) (length-set us n u) (λ c ec. use-taken ls ws us n pl u m r a em ea er (countSaid c) gn.0 ec z ∙ ap
-              (useOf ls ws us n pl) eu)))
+              answers r gr (set us n u) (length-set us n u) (λ c ec. use_taken ls ws us n pl u m r a em ea er (count_said c) gn.0 ec z ∙ ap
+              (use_of ls ws us n pl) eu)))
               (λ no. skips ! $ exec ! C Λ En t-10 (at_ret En Post) $ forget ! 4 refl $ forget ! 18 refl $ forget ! 32 refl $
               keep ! (0 ∷ 1 ∷ 2 ∷ 3 ∷ 4 ∷ 5 ∷ 6 ∷ 7 ∷ 8 ∷ 9 ∷ 10 ∷ 11 ∷ 12 ∷ 13 ∷ 14 ∷ 15 ∷ 16 ∷ 17 ∷ 18 ∷ 19 ∷ 20 ∷ 21 ∷ 22 ∷ 23 ∷ 24 ∷ 25 ∷ 26 ∷ 27
               ∷ 28 ∷ 29 ∷ 30 ∷ 31 ∷ 32 ∷ 33 ∷ 34 ∷ 35 ∷ 36 ∷ 37 ∷ 38 ∷ 39 ∷ 40 ∷ 41 ∷ []) $
-              answers r gr us refl (λ c ec. use_kept ls ws us n pl u m r a em ea er (countSaid c) ec (differs r 0 no) ∙ ap (useOf ls ws us n pl) eu))
+              answers r gr us refl (λ c ec. use_kept ls ws us n pl u m r a em ea er (count_said c) ec (differs r 0 no) ∙ ap (use_of ls ws us n pl) eu))
 
         abbrev AtLooks : List (Item 𝓤)
         AtLooks =
             ‵ (froom ty_ptr l₁₇ 0) ∷ ‵ (fdies ty_ptr l₁₇) ∷ ‵ (froom (ty_int w64) l₁₆ 0) ∷ ‵ (fdies (ty_int w64) l₁₆)
-            ∷ ‵ (froom ty_bool l₁₅ 0) ∷ ‵ (fdies ty_bool l₁₅) ∷ ‵ (froom lent-ty l₁₄ 0) ∷ ‵ (fdies lent-ty l₁₄)
-            ∷ ‵ (froom lent-ptr l₁₃ 0) ∷ ‵ (fdies lent-ptr l₁₃) ∷ ‵ (froom (ty_int w32) l₁₂ 0) ∷ ‵ (fdies (ty_int w32) l₁₂)
+            ∷ ‵ (froom ty_bool l₁₅ 0) ∷ ‵ (fdies ty_bool l₁₅) ∷ ‵ (froom lent_ty l₁₄ 0) ∷ ‵ (fdies lent_ty l₁₄)
+            ∷ ‵ (froom lent_ptr l₁₃ 0) ∷ ‵ (fdies lent_ptr l₁₃) ∷ ‵ (froom (ty_int w32) l₁₂ 0) ∷ ‵ (fdies (ty_int w32) l₁₂)
             ∷ ‵ (froom ty_bool l₁₁ 0) ∷ ‵ (fdies ty_bool l₁₁) ∷ ‵ (froom (ty_int w64) l₁₀ 0) ∷ ‵ (fdies (ty_int w64) l₁₀)
             ∷ ‵ (froom (ty_int w64) l₉ 0) ∷ ‵ (fdies (ty_int w64) l₉) ∷ ‵ (fat full_share T'.mir l₈ 0 (T'.lowered u)) ∷ ‵ (fdies T'.mir l₈)
             ∷ ‵ (fat full_share τ₇ l₇ 0 (vint w32 ft)) ∷ ‵ (fdies τ₇ l₇) ∷ ‵ (fat full_share τ₆ l₆ 0 pmach) ∷ ‵ (fdies τ₆ l₆)
             ∷ ‵ (fat full_share τ₅ l₅ 0 (vint w32 lb)) ∷ ‵ (fdies τ₅ l₅) ∷ ‵ (fat full_share τ₄ l₄ 0 sw) ∷ ‵ (fdies τ₄ l₄)
             ∷ ‵ (fat full_share τ₃ l₃ 0 sl) ∷ ‵ (fdies τ₃ l₃) ∷ ‵ (fat full_share (ty_int w64) l₂ 0 (vint w64 n)) ∷ ‵ (fdies (ty_int w64) l₂)
-            ∷ ‵ (fat full_share uses-ty l₁ 0 su) ∷ ‵ (fdies uses-ty l₁) ∷ ‵ (froom τ₀ l₀ 0) ∷ ‵ (fdies τ₀ l₀) ∷ ‵ (MutU us) ∷ ‵ (flft κ q) ∷ ‵ ShrL
+            ∷ ‵ (fat full_share uses_ty l₁ 0 su) ∷ ‵ (fdies uses_ty l₁) ∷ ‵ (froom τ₀ l₀ 0) ∷ ‵ (fdies τ₀ l₀) ∷ ‵ (MutU us) ∷ ‵ (flft κ q) ∷ ‵ ShrL
             ∷ ‵ (flft κ' q') ∷ ‵ ShrW ∷ ‵ (flft κ'' q'') ∷ []
 
         -- the scan, and why the use is not taken
@@ -441,8 +441,8 @@ module _ {M : Type 1} {𝓤 : Ura M} (𝓛 : Logic 𝓤) (mem : Memory → SProp
             use1 𝓛 (later (some (λ (r : ℕ). ((‵ (flft κ' q') ⊛ ‵ (flft κ'' q'') ⊛ ‵ ftrue) ⊛ ‵ (u32.own_val r (v₄ ∷ []))) ⊛ raw
             (ensured 𝓛 may.ended (may.clauses 𝓛 mem run) (κ', (κ'', tt)) (lref, (wref, (pl, (u, (a, (n, (length us, tt))))))) tt r))))
             (id⊢ 𝓤 _) $ await ! tt $ pick ! (λ r. split ! $ move ! (1 ∷ []) $
-            use1 𝓛 (raw (fact 𝓤 (r ≡ mayUse ls ws pl u a (roomIn (length us) (n + 1))))) (said₄ u a r) $
-            heard ! (r ≡ mayUse ls ws pl u a (roomIn (length us) (n + 1))) (λ er. split ! $ move ! (1 ∷ []) $
+            use1 𝓛 (raw (fact 𝓤 (r ≡ use_refusal ls ws pl u a (room_for (length us) (n + 1))))) (said₄ u a r) $
+            heard ! (r ≡ use_refusal ls ws pl u a (room_for (length us) (n + 1))) (λ er. split ! $ move ! (1 ∷ []) $
             peeks ! u32 (Is u32) (shows 𝓛 u32) r (v₄ ∷ []) (λ is₄.
             land ! (from ! (stop !)) (init ! 14 refl ((uint_Lawful 𝓛 w32).typed r _ is₄).0) $ drop ! $
             rewrite ! 13 (λ (w : Val). ‵ (fat full_share (ty_int w32) l₁₂ 0 w)) (ap only is₄.0) refl $ split ! $ move ! (1 ∷ []) $ split ! $
@@ -478,7 +478,7 @@ module _ {M : Type 1} {𝓤 : Ura M} (𝓛 : Logic 𝓤) (mem : Memory → SProp
         (and_then ! (load ! (from ! (stop !)) (look ! 23 refl)) (and_then ! (load ! (from ! (stop !)) (look ! 21 refl)) (no_more !)))) (λ v₁.
         use1 𝓛 (later (some (λ (u : Use). (‵ ftrue ⊛ ‵ ((T.the_row).own_val u (v₁ ∷ []))) ⊛ raw
         (ensured 𝓛 make.ended (make.clauses 𝓛 mem run) tt (lb, (pl, (ft, tt))) tt u)))) (id⊢ 𝓤 _) $ await ! tt $ pick ! (λ u. split ! $
-        move ! (1 ∷ []) $ use1 𝓛 (raw (fact 𝓤 (u ≡ useAt lb pl ft))) (said₁ u) $ heard ! (u ≡ useAt lb pl ft) (λ eu. split ! $ move ! (1 ∷ []) $
+        move ! (1 ∷ []) $ use1 𝓛 (raw (fact 𝓤 (u ≡ use_record lb pl ft))) (said₁ u) $ heard ! (u ≡ use_record lb pl ft) (λ eu. split ! $ move ! (1 ∷ []) $
         peeks ! T.the_row (Is T.the_row) (shows 𝓛 T.the_row) u (v₁ ∷ []) (λ is₁.
         land ! (from ! (stop !)) (init ! 20 refl ((LL.lawful T.the_type T'.the_laws 𝓛).typed u _ is₁).0) $ drop ! $
         rewrite ! 19 (λ (w : Val). ‵ (fat full_share T'.mir l₈ 0 w)) (ap only ((T'.lowers).val_is u (v₁ ∷ []) is₁)) refl $ drop ! $
@@ -488,9 +488,9 @@ module _ {M : Type 1} {𝓤 : Ura M} (𝓛 : Logic 𝓤) (mem : Memory → SProp
 module _ {M : Type 1} {𝓤 : Ura M} (𝓛 : Logic 𝓤) (mem : Memory → SProp 𝓤) (run : Routine → Fun 𝓤) where
   open 𝓛 use {H}
 
-  ul-walks : (C : Calls 𝓤 H) (Λ : Loops 𝓤 H) → FmC 𝓤 H 𝓛.laws C → Known 𝓛 mem run C → Walks 𝓛 ul.ended stayed
+  ul_walks : (C : Calls 𝓤 H) (Λ : Loops 𝓤 H) → FmC 𝓤 H 𝓛.laws C → Known 𝓛 mem run C → Walks 𝓛 ul.ended stayed
       (WpFn 𝓤 H C Λ code.function) (ul.clauses 𝓛 mem run)
-  ul-walks C Λ fm known = walked 𝓛 ul.ended stayed (ul.clauses 𝓛 mem run) (WpFn 𝓤 H C Λ code.function)
+  ul_walks C Λ fm known = walked 𝓛 ul.ended stayed (ul.clauses 𝓛 mem run) (WpFn 𝓤 H C Λ code.function)
       (λ κs. (shr_slice_vals, (uint_vals w64, (shr_slice_vals, (shr_slice_vals, (uint_vals w32, (LL.vals P.the_type P'.the_laws, (uint_vals w32, tt))))))))
       (λ κs. (
         mut_slice_Tells (named 0) κs.0 T.the_row,
@@ -513,10 +513,10 @@ module _ {M : Type 1} {𝓤 : Ura M} (𝓛 : Logic 𝓤) (mem : Memory → SProp
       are.0.0.1 are.1.0.1 are.1.1.0.0.1 are.1.1.1.0.0.1 are.1.1.1.1.0.1 are.1.1.1.1.1.1.0.1 C Λ fm known
       are.1.1.1.1.1.0))
 
-ul-meets : {M : Type 1} {𝓤 : Ura M} (𝓛 : Logic 𝓤) → (mem : Memory → SProp 𝓤) (run : Routine → Fun 𝓤) (𝓣 : Tables 𝓤 𝓛.H) →
+ul_meets : {M : Type 1} {𝓤 : Ura M} (𝓛 : Logic 𝓤) → (mem : Memory → SProp 𝓤) (run : Routine → Fun 𝓤) (𝓣 : Tables 𝓤 𝓛.H) →
     Known 𝓛 mem run 𝓣.C
     → Meets 𝓛 ul.signature (WpFn 𝓤 𝓛.H 𝓣.C 𝓣.Λ code.function) (ul.spec 𝓛 mem run)
-ul-meets {𝓤 = 𝓤} 𝓛 mem run 𝓣 known = walk_Meets 𝓛 ul.ended stayed (
+ul_meets {𝓤 = 𝓤} 𝓛 mem run 𝓣 known = walk_Meets 𝓛 ul.ended stayed (
   Goes-slice 𝓛 3 0 tt (plain (λ _. T.the_row)),
   (
     Goes-none 𝓛 3 (λ _. usize) yes (λ κs x f. refl),
@@ -536,26 +536,26 @@ ul-meets {𝓤 = 𝓤} 𝓛 mem run 𝓣 known = walk_Meets 𝓛 ul.ended stayed
   ),
 ) (ul.clauses 𝓛 mem run)
     (WpFn 𝓤 𝓛.H 𝓣.C 𝓣.Λ code.function) (WpFn-mono 𝓤 𝓛.H 𝓛.laws 𝓣 code.function)
-    (ul-walks 𝓛 mem run 𝓣.C 𝓣.Λ (fm_of 𝓤 𝓛.H 𝓛.laws 𝓣) known)
+    (ul_walks 𝓛 mem run 𝓣.C 𝓣.Λ (fm_of 𝓤 𝓛.H 𝓛.laws 𝓣) known)
 
-pub use-label-spec : {M : Type 1} → stated.statement M
+pub use_label_spec : {M : Type 1} → stated.statement M
 unfolding code.routine tables_of
-use-label-spec 𝓤 𝓛 𝓜 𝓡 =
+use_label_spec 𝓤 𝓛 𝓜 𝓡 =
     entered 𝓤 𝓛.H (triple_of 𝓛 ul.signature (ul.spec 𝓛 𝓜.mem 𝓡.run))
     (tables 𝓤 𝓛.H 𝓜 𝓡 code.env).C (tables 𝓤 𝓛.H 𝓜 𝓡 code.env).Λ #label-sheets·use-label code.function (code.unfolded 𝓤 𝓛.H 𝓜 𝓡)
-    (ul-meets 𝓛 𝓜.mem 𝓡.run (tables_of 𝓤 𝓛.H 𝓜 (tables 𝓤 𝓛.H 𝓜 𝓡 code.env)) (
+    (ul_meets 𝓛 𝓜.mem 𝓡.run (tables_of 𝓤 𝓛.H 𝓜 (tables 𝓤 𝓛.H 𝓜 𝓡 code.env)) (
       cited 𝓤 𝓛.H (MakeC 𝓛 𝓜.mem 𝓡.run) 𝓜 𝓡 code.env #label-sheets·use-at make_def.routine code.calls-label-sheets::use-at
           (make_thm.met 𝓤 𝓛 𝓜 𝓡),
       (
-        cited 𝓤 𝓛.H (LeastC 𝓛 𝓜.mem 𝓡.run) 𝓜 𝓡 code.env #words·least least-def.routine
+        cited 𝓤 𝓛.H (LeastC 𝓛 𝓜.mem 𝓡.run) 𝓜 𝓡 code.env #words·least least_def.routine
             code.calls-words::least
-            (least-thm.met 𝓤 𝓛 𝓜 𝓡),
+            (least_thm.met 𝓤 𝓛 𝓜 𝓡),
         (
-          cited 𝓤 𝓛.H (NamedC 𝓛 𝓜.mem 𝓡.run) 𝓜 𝓡 code.env #label-sheets·named scan-def.routine
-              code.calls-label-sheets::named (scan-thm.met 𝓤 𝓛 𝓜 𝓡),
+          cited 𝓤 𝓛.H (NamedC 𝓛 𝓜.mem 𝓡.run) 𝓜 𝓡 code.env #label-sheets·named scan_def.routine
+              code.calls-label-sheets::named (scan_thm.met 𝓤 𝓛 𝓜 𝓡),
           (
             cited 𝓤 𝓛.H (MayC 𝓛 𝓜.mem 𝓡.run) 𝓜 𝓡 code.env #label-uses·may-use
-                may-def.routine code.calls-label-uses::may-use (may-thm.met 𝓤 𝓛 𝓜 𝓡),
+                may_def.routine code.calls-label-uses::may-use (may_thm.met 𝓤 𝓛 𝓜 𝓡),
             cited 𝓤 𝓛.H (AddedC 𝓛 𝓜.mem 𝓡.run) 𝓜 𝓡 code.env
                 #label-sheets·added add_def.routine code.calls-label-sheets::added (add-thm.met 𝓤 𝓛 𝓜 𝓡),
           ),

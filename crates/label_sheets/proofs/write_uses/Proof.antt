@@ -58,17 +58,17 @@ use denote.Exit.{yes}
 use Rattle.words.specs.declared.Place.{Place}
 use Rattle.words.specs.contracts.Place as P
 use Rattle.words.proofs.Place.TheLaws as P'
-use Rattle.labels.specs.Sheet.{checkOf, fixed_of, filled}
+use Rattle.labels.specs.Sheet.{check_of, fixed_of, filled}
 use Rattle.labels.specs.declared.Use.{Use}
 use Rattle.labels.proofs.Finishing.{none}
-use Rattle.labels.proofs.Turns.{uses-inside, uses-write, uses-over}
+use Rattle.labels.proofs.Turns.{uses_inside, uses_write, uses_over}
 use Rattle.labels.specs.contracts.Use as T
 use Rattle.labels.proofs.Use.TheLaws as T'
 use Rattle.label_uses.specs.contracts.fixed_word as fixed
-use Rattle.label_uses.proofs.fixed_word.Symbol as fixed-def
+use Rattle.label_uses.proofs.fixed_word.Symbol as fixed_def
 use Rattle.label_uses.proofs.fixed_word.Symbol.{name as #label-uses·fixed-word}
-use Rattle.label_uses.proofs.fixed_word.Met as fixed-thm
-use Rattle.label_sheets.proofs.Steps.{rest, place-typed}
+use Rattle.label_uses.proofs.fixed_word.Met as fixed_thm
+use Rattle.label_sheets.proofs.Steps.{rest, place_typed}
 use Rattle.label_sheets.specs.contracts.write_uses.Key.{name as #label-sheets·write-uses}
 use Rattle.label_sheets.specs.contracts.write_uses as wu
 use Rattle.label_sheets.proofs.write_uses.Statement as stated
@@ -90,14 +90,14 @@ stayed = (
 abbrev word : Ty
 word = ty_int w64
 
-abbrev uses-ty : Ty
-uses-ty = slice_ty (ty_ref (named 0) imm (pointee (T.the_row).written))
+abbrev uses_ty : Ty
+uses_ty = slice_ty (ty_ref (named 0) imm (pointee (T.the_row).written))
 
-abbrev labels-ty : Ty
-labels-ty = slice_ty (ty_ref (named 1) imm (ty_int w64))
+abbrev labels_ty : Ty
+labels_ty = slice_ty (ty_ref (named 1) imm (ty_int w64))
 
-abbrev words-ty : Ty
-words-ty = slice_ty (ty_ref (named 2) mut (ty_int w32))
+abbrev words_ty : Ty
+words_ty = slice_ty (ty_ref (named 2) mut (ty_int w32))
 
 module _ {M : Type 1} {𝓤 : Ura M} (𝓛 : Logic 𝓤) (mem : Memory → SProp 𝓤) (run : Routine → Fun 𝓤) where
   -- the contract that the proof cites
@@ -113,7 +113,7 @@ module _ {M : Type 1} {𝓤 : Ura M} (𝓛 : Logic 𝓤) (mem : Memory → SProp
 module _ {M : Type 1} {𝓤 : Ura M} (𝓛 : Logic 𝓤) (mem : Memory → SProp 𝓤) (run : Routine → Fun 𝓤)
     (κ κ' κ'' : Lft) (q q' q'' : Share) (b o : ℕ) (γ : GName) (us : List Use) (m : ℕ) (b' o' : ℕ) (γ' : GName) (ls : List ℕ)
     (b'' o'' : ℕ) (γ'' : GName) (ws : List ℕ) (pl : Place) (gn : Room T.the_row (length us)) (gm : m < 2 ^ 64) (gl : Room usize (length ls))
-    (gw : Room u32 (length ws)) (gp : Is P.the_row pl (P'.lowered pl ∷ [])) (ok : (m ≤ length us) × (checkOf pl ls ws [] (take m us) ≡ 0)) where
+    (gw : Room u32 (length ws)) (gp : Is P.the_row pl (P'.lowered pl ∷ [])) (ok : (m ≤ length us) × (check_of pl ls ws [] (take m us) ≡ 0)) where
   open 𝓛 use {H}
 
   abbrev lref : MutBor (List ℕ)
@@ -210,7 +210,7 @@ module _ {M : Type 1} {𝓤 : Ura M} (𝓛 : Logic 𝓤) (mem : Memory → SProp
     fm = fm_of 𝓤 H 𝓛.laws 𝓣
 
     abbrev En : Env 𝓤 H
-    En = (ty_unit, l₀) ∷ (uses-ty, l₁) ∷ (word, l₂) ∷ (labels-ty, l₃) ∷ (words-ty, l₄) ∷ (P'.mir, l₅) ∷ (word, l₆) ∷ (T'.mir, l₇) ∷ (word, l₈) ∷
+    En = (ty_unit, l₀) ∷ (uses_ty, l₁) ∷ (word, l₂) ∷ (labels_ty, l₃) ∷ (words_ty, l₄) ∷ (P'.mir, l₅) ∷ (word, l₆) ∷ (T'.mir, l₇) ∷ (word, l₈) ∷
         ((ty_int w32), l₉) ∷ (ty_bool, l₁₀) ∷ (word, l₁₁) ∷ (ty_ptr, l₁₂) ∷ (T'.mir, l₁₃) ∷ (ty_ptr, l₁₄) ∷ ((ty_int w32), l₁₅) ∷ (ty_ptr, l₁₆) ∷ []
 
     -- local j stands at 2 * (16 - j) + 2
@@ -222,8 +222,8 @@ module _ {M : Type 1} {𝓤 : Ura M} (𝓛 : Logic 𝓤) (mem : Memory → SProp
         ∷ ‵ (froom ty_bool l₁₀ 0) ∷ ‵ (fdies ty_bool l₁₀) ∷ ‵ (froom (ty_int w32) l₉ 0) ∷ ‵ (fdies (ty_int w32) l₉)
         ∷ ‵ (froom word l₈ 0) ∷ ‵ (fdies word l₈) ∷ ‵ (froom T'.mir l₇ 0) ∷ ‵ (fdies T'.mir l₇)
         ∷ ‵ (fat full_share word l₆ 0 (vint w64 i.0)) ∷ ‵ (fdies word l₆) ∷ ‵ (fat full_share P'.mir l₅ 0 mach) ∷ ‵ (fdies P'.mir l₅)
-        ∷ ‵ (fat full_share words-ty l₄ 0 sw) ∷ ‵ (fdies words-ty l₄) ∷ ‵ (fat full_share labels-ty l₃ 0 sl) ∷ ‵ (fdies labels-ty l₃)
-        ∷ ‵ (fat full_share word l₂ 0 (vint w64 m)) ∷ ‵ (fdies word l₂) ∷ ‵ (fat full_share uses-ty l₁ 0 su) ∷ ‵ (fdies uses-ty l₁)
+        ∷ ‵ (fat full_share words_ty l₄ 0 sw) ∷ ‵ (fdies words_ty l₄) ∷ ‵ (fat full_share labels_ty l₃ 0 sl) ∷ ‵ (fdies labels_ty l₃)
+        ∷ ‵ (fat full_share word l₂ 0 (vint w64 m)) ∷ ‵ (fdies word l₂) ∷ ‵ (fat full_share uses_ty l₁ 0 su) ∷ ‵ (fdies uses_ty l₁)
         ∷ ‵ (froom ty_unit l₀ 0) ∷ ‵ (fdies ty_unit l₀) ∷ ‵ (fobor κ q ((arr_parts (shares T.the_row) (length us)).part s us b o)) ∷ ‵ Shr ∷ ‵ ShrL
         ∷ ‵ (flft κ' q') ∷ ‵ (fobor κ'' q'' (Held u32 (length ws) b'' o'' γ'')) ∷ ‵ (fobs γ'' ((coded_holeys u32).code (heres u32 ws)))
         ∷ ‵ (fauth γ'' ((coded_holeys u32).code (heres u32 ws))) ∷ []
@@ -238,7 +238,7 @@ module _ {M : Type 1} {𝓤 : Ura M} (𝓛 : Logic 𝓤) (mem : Memory → SProp
         assigns ! (bin ! (load ! (from ! (stop !)) (look ! 22 refl)) (load ! (from ! (stop !)) (look ! 30 refl)) tt) (from ! (stop !))
         (init ! 14 refl (tt, tt)) $ first ! $ branches ! (load ! (from ! (stop !)) (look ! 14 refl))
         (λ less. let h = ltb→lt i.0 m less in let l : i.0 < length us = omega (arith, ok.0) in let u = get_or us i.0 none in let cur = i.1.0 in
-        let in₀ = uses-inside pl ls ws us m ok.0 ok.1 i.0 h in let within : u.at < length cur = omega (arith, i.1.1.1.0) in
+        let in₀ = uses_inside pl ls ws us m ok.0 ok.1 i.0 h in let within : u.at < length cur = omega (arith, i.1.1.1.0) in
         let times : u.at * 4 < 2 ^ 64 = omega (arith, gw.1) in skips ! $ exec ! C Λ En (rest (rest turn-1)) (any_q (Turned i)) $
         -- one use is read
         assigns ! (bin ! (load ! (from ! (stop !)) (look ! 22 refl)) (lit ! tt) (record { fits = omega (arith, gn.1) })) (from ! (stop !))
@@ -298,7 +298,7 @@ module _ {M : Type 1} {𝓤 : Ura M} (𝓛 : Logic 𝓤) (mem : Memory → SProp
           i.0 + 1,
           (
             set cur u.at r,
-            (add-one-le h, (length-set cur u.at r ∙ i.1.1.1.0, uses-write pl ls ws us m ok.0 ok.1 cur i.0 r h e i.1.1.1.1)),
+            (add-one-le h, (length-set cur u.at r ∙ i.1.1.1.0, uses_write pl ls ws us m ok.0 ok.1 cur i.0 r h e i.1.1.1.1)),
           ),
         )
         (omega arith)))))))))
@@ -311,7 +311,7 @@ module _ {M : Type 1} {𝓤 : Ura M} (𝓛 : Logic 𝓤) (mem : Memory → SProp
         move ! (20 ∷ 21 ∷ []) $ free1 ! $ move ! (18 ∷ 19 ∷ []) $ free1 ! $ move ! (16 ∷ 17 ∷ []) $ free1 ! $ move ! (14 ∷ 15 ∷ []) $ free1 ! $
         move ! (12 ∷ 13 ∷ []) $ free1 ! $ move ! (10 ∷ 11 ∷ []) $ free1 ! $ move ! (8 ∷ 9 ∷ []) $ free1 ! $ move ! (6 ∷ 7 ∷ []) $ free1 ! $
         move ! (4 ∷ 5 ∷ []) $ free1 ! $ free0 ! $
-        by ! (exits i.1.0 i.1.1.1.0 (sym (uses-over pl ls ws us m ok.0 ok.1 i.1.0 i.0 (nltb→le i.0 m over)) ∙ i.1.1.1.1)))
+        by ! (exits i.1.0 i.1.1.1.0 (sym (uses_over pl ls ws us m ok.0 ok.1 i.1.0 i.0 (nltb→le i.0 m over)) ∙ i.1.1.1.1)))
 
     -- the loop and what follows, over En: with the environment as the code spells it the kernel takes too long
     looped : Sq 𝓛 (At (0, (ws, (zero-le, (refl, refl))))) (runs C Λ En t-2 (at_ret En Post))
@@ -331,7 +331,7 @@ module _ {M : Type 1} {𝓤 : Ura M} (𝓛 : Logic 𝓤) (mem : Memory → SProp
       alloc1 ! (λ l₈. alloc1 ! (λ l₉. alloc1 ! (λ l₁₀. alloc1 ! (λ l₁₁. alloc1 ! (λ l₁₂. alloc1 ! (λ l₁₃. alloc1 ! (λ l₁₄. alloc1 ! (λ l₁₅.
       alloc1 ! (λ l₁₆. alloc0 ! $ params1 ! $ pass1 ! (init ! 30 refl (tt, (tt, (record { fits = gn.0 }, tt)))) $
       pass1 ! (init ! 28 refl (tt, record { fits = gm })) $ pass1 ! (init ! 26 refl (tt, (tt, (record { fits = gl.0 }, tt)))) $
-      pass1 ! (init ! 24 refl (tt, (tt, (record { fits = gw.0 }, tt)))) $ pass1 ! (init ! 22 refl (place-typed 𝓛 pl gp)) $ pass0 ! $
+      pass1 ! (init ! 24 refl (tt, (tt, (record { fits = gw.0 }, tt)))) $ pass1 ! (init ! 22 refl (place_typed 𝓛 pl gp)) $ pass0 ! $
       assigns ! (of_opd ! (lit ! tt)) (from ! (stop !)) (init ! 20 refl (tt, record { fits = lit< tt })) $
       -- the tokens, and what the slices own
       move ! (35 ∷ []) $ fsplit ! $ move ! (1 ∷ []) $ fsplit ! $ move ! (1 ∷ []) $ fsplit ! $ move ! (1 ∷ []) $ fsplit ! $ move ! (39 ∷ []) $
@@ -349,9 +349,9 @@ module _ {M : Type 1} {𝓤 : Ura M} (𝓛 : Logic 𝓤) (mem : Memory → SProp
 module _ {M : Type 1} {𝓤 : Ura M} (𝓛 : Logic 𝓤) (mem : Memory → SProp 𝓤) (run : Routine → Fun 𝓤) where
   open 𝓛 use {H}
 
-  wu-walks : (𝓣 : Tables 𝓤 H) → Known 𝓛 mem run 𝓣.C
+  wu_walks : (𝓣 : Tables 𝓤 H) → Known 𝓛 mem run 𝓣.C
       → Walks 𝓛 wu.ended stayed (WpFn 𝓤 H 𝓣.C 𝓣.Λ code.function) (wu.clauses 𝓛 mem run)
-  wu-walks 𝓣 known = walked 𝓛 wu.ended stayed (wu.clauses 𝓛 mem run) (WpFn 𝓤 H 𝓣.C 𝓣.Λ code.function)
+  wu_walks 𝓣 known = walked 𝓛 wu.ended stayed (wu.clauses 𝓛 mem run) (WpFn 𝓤 H 𝓣.C 𝓣.Λ code.function)
       (λ κs. (shr_slice_vals, (uint_vals w64, (shr_slice_vals, (shr_slice_vals, (LL.vals P.the_type P'.the_laws, tt))))))
       (λ κs. (
         shr_slice_Tells (named 0) κs.0 T.the_row,
@@ -369,9 +369,9 @@ module _ {M : Type 1} {𝓤 : Ura M} (𝓛 : Logic 𝓤) (mem : Memory → SProp
       a.1.1.1.0.ref_ptr.0 a.1.1.1.0.ref_ptr.1 a.1.1.1.0.ghost_name a.1.1.1.0.now a.1.1.1.1.0
       are.0.0.1 are.1.0.1 are.1.1.0.0.1 are.1.1.1.0.0.1 are.1.1.1.1.0 ok 𝓣 known))
 
-wu-meets : {M : Type 1} {𝓤 : Ura M} (𝓛 : Logic 𝓤) → (mem : Memory → SProp 𝓤) (run : Routine → Fun 𝓤) (𝓣 : Tables 𝓤 𝓛.H)
+wu_meets : {M : Type 1} {𝓤 : Ura M} (𝓛 : Logic 𝓤) → (mem : Memory → SProp 𝓤) (run : Routine → Fun 𝓤) (𝓣 : Tables 𝓤 𝓛.H)
     → Known 𝓛 mem run 𝓣.C → Meets 𝓛 wu.signature (WpFn 𝓤 𝓛.H 𝓣.C 𝓣.Λ code.function) (wu.spec 𝓛 mem run)
-wu-meets {𝓤 = 𝓤} 𝓛 mem run 𝓣 known = walk_Meets 𝓛 wu.ended stayed (
+wu_meets {𝓤 = 𝓤} 𝓛 mem run 𝓣 known = walk_Meets 𝓛 wu.ended stayed (
   Goes-none_slice 𝓛 3 (0 ∷ []) tt (plain (λ _. T.the_row)) yes,
   (
     Goes-none 𝓛 3 (λ _. usize) yes (λ κs x f. refl),
@@ -384,13 +384,13 @@ wu-meets {𝓤 = 𝓤} 𝓛 mem run 𝓣 known = walk_Meets 𝓛 wu.ended stayed
     ),
   ),
 ) (wu.clauses 𝓛 mem run)
-    (WpFn 𝓤 𝓛.H 𝓣.C 𝓣.Λ code.function) (WpFn-mono 𝓤 𝓛.H 𝓛.laws 𝓣 code.function) (wu-walks 𝓛 mem run 𝓣 known)
+    (WpFn 𝓤 𝓛.H 𝓣.C 𝓣.Λ code.function) (WpFn-mono 𝓤 𝓛.H 𝓛.laws 𝓣 code.function) (wu_walks 𝓛 mem run 𝓣 known)
 
-pub write-uses-spec : {M : Type 1} → stated.statement M
+pub write_uses_spec : {M : Type 1} → stated.statement M
 unfolding code.routine tables_of
-write-uses-spec 𝓤 𝓛 𝓜 𝓡 =
+write_uses_spec 𝓤 𝓛 𝓜 𝓡 =
     entered 𝓤 𝓛.H (triple_of 𝓛 wu.signature (wu.spec 𝓛 𝓜.mem 𝓡.run))
     (tables 𝓤 𝓛.H 𝓜 𝓡 code.env).C (tables 𝓤 𝓛.H 𝓜 𝓡 code.env).Λ #label-sheets·write-uses code.function (code.unfolded 𝓤 𝓛.H 𝓜 𝓡)
-    (wu-meets 𝓛 𝓜.mem 𝓡.run (tables_of 𝓤 𝓛.H 𝓜 (tables 𝓤 𝓛.H 𝓜 𝓡 code.env))
-    (cited 𝓤 𝓛.H (Fixed 𝓛 𝓜.mem 𝓡.run) 𝓜 𝓡 code.env #label-uses·fixed-word fixed-def.routine code.calls-label-uses::fixed-word
-    (fixed-thm.met 𝓤 𝓛 𝓜 𝓡)))
+    (wu_meets 𝓛 𝓜.mem 𝓡.run (tables_of 𝓤 𝓛.H 𝓜 (tables 𝓤 𝓛.H 𝓜 𝓡 code.env))
+    (cited 𝓤 𝓛.H (Fixed 𝓛 𝓜.mem 𝓡.run) 𝓜 𝓡 code.env #label-uses·fixed-word fixed_def.routine code.calls-label-uses::fixed-word
+    (fixed_thm.met 𝓤 𝓛 𝓜 𝓡)))

@@ -1,9 +1,9 @@
 -- `label_uses::made_word` meets its contract. Assumes nothing.
 use mathlib.Core.Path.{ap, ◌∙◌}
 use borrow.Author.Rules.{rules}
-use Rattle.words.specs.Place.{placeAt, base_of, address_of}
+use Rattle.words.specs.Place.{place_at, base_of, address_of}
 use Rattle.words.specs.declared.Address.{Address}
-use Rattle.labels.specs.Sheet.{madeFrom}
+use Rattle.labels.specs.Sheet.{made_from}
 use Rattle.label_uses.proofs.made_word.Statement.{statement}
 use Rattle.label_uses.proofs.made_word.Tie as tie
 
@@ -26,16 +26,16 @@ disp-target-word-requires : tie.Need-disp-target-word-requires
 disp-target-word-requires c κs = search rules
 
 returns : tie.Need-returns
-unfolding madeFrom
+unfolding made_from
 returns c =
     let a = c.before.before.before.before.before.before.before.args in
     let k = c.before.before.before.before in
-    let t = ap (λ (x : Address). x.0) c.before.before.before.address-of.ensures ∙ ap address_of (k.moved.ensures ∙ ap (placeAt (base_of a.at)) k.before.target-of.ensures) in
+    let t = ap (λ (x : Address). x.0) c.before.before.before.address-of.ensures ∙ ap address_of (k.moved.ensures ∙ ap (place_at (base_of a.at)) k.before.target-of.ensures) in
     let w = ap (λ (x : Address). x.0) c.before.address-of2.ensures ∙ ap address_of c.before.before.moved2.ensures in
     rw (t, w) at c.disp-target-word.ensures
 
-pub made-word-spec : {M : Type 1} → statement M
-made-word-spec =
+pub made_word_spec : {M : Type 1} → statement M
+made_word_spec =
     tie.close
     (tie.spec
     target-of-requires

@@ -3,8 +3,8 @@ use native.Mathlib.Omega.{arith}
 use mathlib.Core.Path.{ap, ◌∙◌}
 use borrow.Author.Rules.{rules}
 use borrow.Author.Tests.{lt-ltb, le-ltb, le-leb, lt-leb, not-true, not-false}
-use Rattle.labels.specs.Sheet.{number_in, wordNumber}
-use Rattle.labels.proofs.Decides.{base-fails, base-passes, made-number}
+use Rattle.labels.specs.Sheet.{number_in, word_number}
+use Rattle.labels.proofs.Decides.{base_fails, base_passes, made_number_lem}
 use Rattle.label_uses.proofs.use_number.Statement.{statement}
 use Rattle.label_uses.proofs.use_number.Tie as tie
 
@@ -12,7 +12,7 @@ number-requires : tie.Need-number-requires
 number-requires c κs = search rules
 
 returns : tie.Need-returns
-unfolding wordNumber
+unfolding word_number
 returns c = simp (le-ltb _ _ c.before.if1.true) c.number.ensures
 
 is-label-requires : tie.Need-is-label-requires
@@ -22,7 +22,7 @@ number-requires-2 : tie.Need-number-requires-2
 number-requires-2 c κs = search rules
 
 returns-2 : tie.Need-returns-2
-unfolding wordNumber
+unfolding word_number
 returns-2 c =
     let d = c.before in let e = d.before in let f = e.before in
     simp (lt-ltb _ _ f.if1.false, ← e.is-label.ensures, not-true e.is-label.result d.if2.true) c.number2.ensures
@@ -34,7 +34,7 @@ number-requires-3 : tie.Need-number-requires-3
 number-requires-3 c κs = search rules
 
 returns-3 : tie.Need-returns-3
-unfolding wordNumber
+unfolding word_number
 returns-3 c =
     let d = c.before in let e = d.before in let f = e.before in let g = f.before in let h = g.before in
     simp (
@@ -49,7 +49,7 @@ number-requires-4 : tie.Need-number-requires-4
 number-requires-4 c κs = search rules
 
 returns-4 : tie.Need-returns-4
-unfolding wordNumber
+unfolding word_number
 returns-4 c =
     let d = c.before in let e = d.before in let f = e.before in let g = f.before in let h = g.before in let i = h.before in
     simp (
@@ -68,7 +68,7 @@ number-requires-5 : tie.Need-number-requires-5
 number-requires-5 c κs = search rules
 
 returns-5 : tie.Need-returns-5
-unfolding wordNumber
+unfolding word_number
 returns-5 c =
     let d = c.before in let e = d.before in let f = e.before in let g = f.before in let h = g.before in let i = h.before in let j = i.before in
     let k = j.before in
@@ -93,7 +93,7 @@ base-number-requires : tie.Need-base-number-requires
 base-number-requires c κs = search rules
 
 returns-6 : tie.Need-returns-6
-unfolding wordNumber
+unfolding word_number
 returns-6 c =
     let d = c.before in let e = d.before.before in let f = e.before in let g = f.before in let h = g.before in let i = h.before in
     let j = i.before in let k = j.before in let l = k.before in
@@ -106,13 +106,13 @@ returns-6 c =
       lt-ltb _ _ g.if4.false,
       ← f.target-of.ensures,
       le-leb _ _ e.if5.false,
-    ) (base-fails _ _ _ d.base-number.ensures _ c.if6.true)
+    ) (base_fails _ _ _ d.base-number.ensures _ c.if6.true)
 
 number-requires-6 : tie.Need-number-requires-6
 number-requires-6 c κs = search rules
 
 returns-7 : tie.Need-returns-7
-unfolding wordNumber
+unfolding word_number
 returns-7 c =
     let d = c.before in let e = d.before in let f = e.before in let g = f.before.before in let h = g.before in let i = h.before in
     let j = i.before in let k = j.before in let l = k.before in let m = l.before in let n = m.before in
@@ -125,8 +125,8 @@ returns-7 c =
       lt-ltb _ _ i.if4.false,
       ← h.target-of.ensures,
       le-leb _ _ g.if5.false,
-      (base-passes _ _ _ f.base-number.ensures e.if6.false).0,
-      (base-passes _ _ _ f.base-number.ensures e.if6.false).1.0,
+      (base_passes _ _ _ f.base-number.ensures e.if6.false).0,
+      (base_passes _ _ _ f.base-number.ensures e.if6.false).1.0,
       d.if7.true,
     ) c.number6.ensures
 
@@ -143,7 +143,7 @@ made-number-requires : tie.Need-made-number-requires
 made-number-requires c κs = search rules
 
 returns-8 : tie.Need-returns-8
-unfolding wordNumber
+unfolding word_number
 returns-8 c =
     let d = c.before in let e = d.before.before in let f = e.before in let g = f.before in let h = g.before.before in let i = h.before in
     let j = i.before in let k = j.before in let l = k.before in let m = l.before in let n = m.before in let o = n.before in
@@ -156,13 +156,13 @@ returns-8 c =
       lt-ltb _ _ j.if4.false,
       ← i.target-of.ensures,
       le-leb _ _ h.if5.false,
-      (base-passes _ _ _ g.base-number.ensures f.if6.false).0,
-      (base-passes _ _ _ g.base-number.ensures f.if6.false).1.0,
+      (base_passes _ _ _ g.base-number.ensures f.if6.false).0,
+      (base_passes _ _ _ g.base-number.ensures f.if6.false).1.0,
       e.if7.false,
-    ) (c.made-number.ensures ∙ ap number_in d.made_Word.ensures ∙ made-number _ _ _ _)
+    ) (c.made_number_lem.ensures ∙ ap number_in d.made_Word.ensures ∙ made_number_lem _ _ _ _)
 
-pub use-number-spec : {M : Type 1} → statement M
-use-number-spec =
+pub use_number_spec : {M : Type 1} → statement M
+use_number_spec =
     tie.close
     (tie.spec
     number-requires

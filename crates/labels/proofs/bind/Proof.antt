@@ -2,7 +2,7 @@
 use mathlib.Core.Path.{sym, ◌∙◌}
 use borrow.Author.Rules.{rules}
 use borrow.Author.Tests.{le-leb, lt-leb, eq-eqb, ne_eqb, not-true, not-false}
-use Rattle.labels.proofs.Decides.{label-in}
+use Rattle.labels.proofs.Decides.{label_in}
 use Rattle.labels.proofs.bind.Statement.{statement}
 use Rattle.labels.proofs.bind.Tie as tie
 
@@ -34,7 +34,7 @@ mul-if3 c = search rules
 slice-read-if3 : tie.Need-slice-read-if3
 slice-read-if3 c =
     let k = c.before.before in
-    label-in _ _ (sym k.is-label.ensures ∙ not-false k.is-label.result c.before.if2.false)
+    label_in _ _ (sym k.is-label.ensures ∙ not-false k.is-label.result c.before.if2.false)
 
 same-length-2 : tie.Need-same-length-2
 same-length-2 c = search rules
@@ -74,7 +74,7 @@ mul-labels c = search rules
 slice-write-labels : tie.Need-slice-write-labels
 slice-write-labels c =
     let k = c.before.before.before.before in
-    label-in _ _ (sym k.is-label.ensures ∙ not-false k.is-label.result c.before.before.before.if2.false)
+    label_in _ _ (sym k.is-label.ensures ∙ not-false k.is-label.result c.before.before.before.if2.false)
 
 same-length-4 : tie.Need-same-length-4
 same-length-4 c = search rules
@@ -91,8 +91,8 @@ returns-5 c =
       le-leb _ _ c.if4.false,
     )
 
-pub bind-spec : {M : Type 1} → statement M
-bind-spec =
+pub bind_spec : {M : Type 1} → statement M
+bind_spec =
     tie.close
     (tie.spec
     is-aligned-requires

@@ -8,5 +8,5 @@ returns : tie.Need-returns
 unfolding aligned
 returns c = refl
 
-pub is-aligned-spec : {M : Type 1} → statement M
-is-aligned-spec = tie.close (tie.spec returns)
+pub is_aligned_spec : {M : Type 1} → statement M
+is_aligned_spec = tie.close (tie.spec returns)

@@ -11,8 +11,8 @@ invariant-loop words i₀ i = i ≤ length words
 abbrev decreases-loop : tie.decreases-loop
 decreases-loop words i₀ i = length words - i
 
-pub say-words-spec : {M : Type 1} → statement M
-say-words-spec =
+pub say_words_spec : {M : Type 1} → statement M
+say_words_spec =
     tie.close
     (tie.spec
     invariant-loop

@@ -11,5 +11,5 @@ returns c =
     let text = number.before.before.before.before in
     puts 12 22 (wider _ 12 text.before.before.before.before.requires.1 text.put-text.ensures) (puts 21 1 number.put-number.ensures end.put_byte.ensures)
 
-pub put-about-spec : {M : Type 1} → statement M
-put-about-spec = tie.close (tie.spec (λ c κs. omega arith) (λ c κs. omega arith) (λ c κs. omega arith) (λ c. (returns c).same) returns)
+pub put_about_spec : {M : Type 1} → statement M
+put_about_spec = tie.close (tie.spec (λ c κs. omega arith) (λ c κs. omega arith) (λ c κs. omega arith) (λ c. (returns c).same) returns)

@@ -12,8 +12,8 @@ returns c =
     let i = c.before.before.before.before.before.args.at in
     record { past = refl; holds = cc (add-one i, add-two i, add-three i); same = simp length-set; short = omega arith }
 
-pub put-half-spec : {M : Type 1} → statement M
-put-half-spec =
+pub put_half_spec : {M : Type 1} → statement M
+put_half_spec =
     tie.close
     (tie.spec
     (λ c κs. omega arith)

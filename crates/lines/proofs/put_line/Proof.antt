@@ -2,13 +2,13 @@
 use mathlib.Core.Path.{◌≡◌, refl}
 use native.Mathlib.Omega.{arith}
 use Rattle.words.specs.Answer.{number_of}
-use Rattle.lines.proofs.Puts.{line-is, line-none}
+use Rattle.lines.proofs.Puts.{line-is, line_none}
 use borrow.Author.Rules.{rules}
 use Rattle.lines.proofs.put_line.Statement.{statement}
 use Rattle.lines.proofs.put_line.Tie as tie
 
 returns : tie.Need-returns
-returns c = rw c.enum_told.given.1 (line-none _ _ c.before.before.before.requires)
+returns c = rw c.enum_told.given.1 (line_none _ _ c.before.before.before.requires)
 
 returns-2 : tie.Need-returns-2
 returns-2 c =
@@ -36,8 +36,8 @@ returns-6 c =
     let it = c.before.before.before.before.before.before in
     rw it.a5.given.1 (line-is _ it.before.before.before.requires c.before.before.put-about3.ensures)
 
-pub put-line-spec : {M : Type 1} → statement M
-put-line-spec =
+pub put_line_spec : {M : Type 1} → statement M
+put_line_spec =
     tie.close
     (tie.spec
     (λ c. c.match.keys1)

@@ -12,5 +12,5 @@ returns c =
     let o = k.before.before.before.before in
     puts 2 85 (puts 1 1 o.put_byte.ensures k.put-byte2.ensures) (puts 84 1 list.put-parts.ensures end.put-byte3.ensures)
 
-pub put-ok-spec : {M : Type 1} → statement M
-put-ok-spec = tie.close (tie.spec (λ c κs. omega arith) (λ c κs. omega arith) (λ c κs. omega arith) (λ c κs. omega arith) (λ c. (returns c).same) returns)
+pub put_ok_spec : {M : Type 1} → statement M
+put_ok_spec = tie.close (tie.spec (λ c κs. omega arith) (λ c κs. omega arith) (λ c κs. omega arith) (λ c κs. omega arith) (λ c. (returns c).same) returns)

@@ -27,5 +27,5 @@ returns-3 c =
     let gone : c.before.before.args.there ≡ false = c.if1.false in
     rw gone (none 21 _ _)
 
-pub put-part-spec : {M : Type 1} → statement M
-put-part-spec = tie.close (tie.spec (λ c κs. omega arith) (λ c. (returns c).same) returns (λ c κs. omega arith) (λ c. (returns-2 c).same) returns-2 returns-3)
+pub put_part_spec : {M : Type 1} → statement M
+put_part_spec = tie.close (tie.spec (λ c κs. omega arith) (λ c. (returns c).same) returns (λ c κs. omega arith) (λ c. (returns-2 c).same) returns-2 returns-3)

@@ -16,5 +16,5 @@ returns c =
     (puts 21 42 second.put-part2.ensures
     (puts 21 21 third.put-part3.ensures fourth.put-part4.ensures)))
 
-pub put-parts-spec : {M : Type 1} → statement M
-put-parts-spec = tie.close (tie.spec (λ c κs. omega arith) (λ c κs. omega arith) (λ c κs. omega arith) (λ c κs. omega arith) (λ c. (returns c).same) returns)
+pub put_parts_spec : {M : Type 1} → statement M
+put_parts_spec = tie.close (tie.spec (λ c κs. omega arith) (λ c κs. omega arith) (λ c κs. omega arith) (λ c κs. omega arith) (λ c. (returns c).same) returns)

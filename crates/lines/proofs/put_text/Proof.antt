@@ -41,8 +41,8 @@ returns c =
       short = omega arith;
     }
 
-pub put-text-spec : {M : Type 1} → statement M
-put-text-spec =
+pub put_text_spec : {M : Type 1} → statement M
+put_text_spec =
     tie.close
     (tie.spec
     invariant-loop

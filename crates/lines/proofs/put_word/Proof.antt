@@ -11,5 +11,5 @@ returns c =
     let space = first.before.before.before.before in
     puts 1 8 space.put_byte.ensures (puts 4 4 first.put-half.ensures second.put-half2.ensures)
 
-pub put-word-spec : {M : Type 1} → statement M
-put-word-spec = tie.close (tie.spec (λ c κs. omega arith) (λ c κs. omega arith) (λ c κs. omega arith) (λ c. (returns c).same) returns)
+pub put_word_spec : {M : Type 1} → statement M
+put_word_spec = tie.close (tie.spec (λ c κs. omega arith) (λ c κs. omega arith) (λ c κs. omega arith) (λ c. (returns c).same) returns)

@@ -6,7 +6,7 @@ use lib.ListN.{length}
 use borrow.Author.Rules.{rules}
 use Rattle.lines.specs.Parts.{word}
 use Rattle.lines.proofs.Puts.{puts}
-use Rattle.lines.proofs.Parts.{enough, too_few, part-full, part-is}
+use Rattle.lines.proofs.Parts.{enough, too_few, part_full, part_is}
 use Rattle.lines.proofs.word.Statement.{statement}
 use Rattle.lines.proofs.word.Tie as tie
 
@@ -29,16 +29,16 @@ returns : tie.Need-returns
 returns c =
     let first = c.before.before.before.before.before.before in
     let test = first.before.before in
-    part-is _ _ (word _) (enough test.before.has_room.ensures test.if1.true)
+    part_is _ _ (word _) (enough test.before.has_room.ensures test.if1.true)
     (puts 4 4 first.put-half.ensures c.before.before.put-half2.ensures)
 
 returns-2 : tie.Need-returns-2
-returns-2 c = sym (part-full _ _ (word _) (too_few c.before.has_room.ensures c.if1.false))
+returns-2 c = sym (part_full _ _ (word _) (too_few c.before.has_room.ensures c.if1.false))
 
 same_length : tie.Need-same-length
 same_length c =
     let first = c.before.before.before.before.before.before in
     c.before.before.put-half2.ensures.same ∙ first.put-half.ensures.same
 
-pub word-spec : {M : Type 1} → statement M
-word-spec = tie.close (tie.spec (search rules) put-half-requires put-half-requires-2 same_length returns returns-2)
+pub word_spec : {M : Type 1} → statement M
+word_spec = tie.close (tie.spec (search rules) put-half-requires put-half-requires-2 same_length returns returns-2)

@@ -6,7 +6,7 @@ use native.Mathlib.Omega.{arith}
 use Rattle.arm.specs.Elements.{IsRun}
 use Rattle.logical.specs.Run.{Found}
 use Rattle.logical.specs.declared.RunAnswer.{RunAnswer}
-use Rattle.logical.proofs.Laws.{even-answer, odd-answer, no_answer}
+use Rattle.logical.proofs.Laws.{even_answer, odd_answer, no_answer}
 use borrow.Author.Rules.{rules}
 use Rattle.logical.proofs.encode_64.Statement.{statement}
 use Rattle.logical.proofs.encode_64.Tie as tie
@@ -38,7 +38,7 @@ returns c =
     let at = c.before.before.before in
     let start = at.before.before.before.before in
     rw c.spell.ensures
-    (even-answer (inr refl) start.ranges.v.fits (rw (at.before.before.before.evened.ensures.same c.before.if1.true) at (run at)))
+    (even_answer (inr refl) start.ranges.v.fits (rw (at.before.before.before.evened.ensures.same c.before.if1.true) at (run at)))
 
 returns-2 : tie.Need-returns-2
 returns-2 c =
@@ -46,7 +46,7 @@ returns-2 c =
     let start = at.before.before.before.before in
     let odd : start.args.v % 2 ≡ 1 = omega (arith, c.before.if1.false) in
     rw c.spell2.ensures
-    (odd-answer (inr refl) start.ranges.v.fits (rw (at.before.before.before.evened.ensures.other odd) at (run at)))
+    (odd_answer (inr refl) start.ranges.v.fits (rw (at.before.before.before.evened.ensures.other odd) at (run at)))
 
 returns-3 : tie.Need-returns-3
 returns-3 c =
@@ -55,8 +55,8 @@ returns-3 c =
     no_answer (inr refl) start.ranges.v.fits at.before.evened.ensures
     (subst (λ (a : RunAnswer). Found 64 at.before.evened.result a) c.enum_told.given.1 at.find-run.ensures)
 
-pub encode-64-spec : {M : Type 1} → statement M
-encode-64-spec =
+pub encode_64_spec : {M : Type 1} → statement M
+encode_64_spec =
     tie.close
     (tie.spec
     (search rules)

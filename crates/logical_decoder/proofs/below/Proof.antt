@@ -10,5 +10,5 @@ sub-result c = rw c.requires.1 (pow_pos c.requires.0)
 returns : tie.Need-returns
 returns c = rw c.requires.1 (and_mask c.args.x c.requires.0)
 
-pub below-spec : {M : Type 1} → statement M
-below-spec = tie.close (tie.spec sub-result returns)
+pub below_spec : {M : Type 1} → statement M
+below_spec = tie.close (tie.spec sub-result returns)

@@ -2,7 +2,7 @@
 use mathlib.Core.Path.{◌≡◌, refl, sym}
 use Prim.Native.Nat.{ℕ, ◌/◌}
 use Rattle.arm.specs.Bits.{Replicate}
-use Rattle.arm.proofs.Lengths.{at-element}
+use Rattle.arm.proofs.Lengths.{at_element}
 use Rattle.logical_decoder.proofs.copies.Statement.{statement}
 use Rattle.logical_decoder.proofs.copies.Tie as tie
 
@@ -30,9 +30,9 @@ returns-6 : tie.Need-returns-6
 unfolding Replicate
 returns-6 c =
     let r = c.match.rest in
-    at-element (λ (i : ℕ). (i ≡ c.before.args.e) → 1 ≡ Replicate i 1 (64 / i))
+    at_element (λ (i : ℕ). (i ≡ c.before.args.e) → 1 ≡ Replicate i 1 (64 / i))
     (λ q. absurd (r.0.0.0.0.1 (sym q))) (λ q. absurd (r.0.0.0.1 (sym q))) (λ q. absurd (r.0.0.1 (sym q))) (λ q. absurd (r.0.1 (sym q))) (λ q. absurd (r.1 (sym q))) (λ q. refl)
     c.before.requires refl
 
-pub copies-spec : {M : Type 1} → statement M
-copies-spec = tie.close (tie.spec returns returns-2 returns-3 returns-4 returns-5 returns-6)
+pub copies_spec : {M : Type 1} → statement M
+copies_spec = tie.close (tie.spec returns returns-2 returns-3 returns-4 returns-5 returns-6)

@@ -6,7 +6,7 @@ use native.Mathlib.Nat.{mod-le, mod-lt, lt_irrefl, not-le_of_lt}
 use native.Mathlib.Omega.{arith}
 use Rattle.arm.specs.Bits.{Ones, ROR, Replicate}
 use Rattle.arm.specs.BitMasks.{IsWidth, esize, len, Legal, wmask}
-use Rattle.arm.proofs.Fields.{not_short, legal-of, legal-element}
+use Rattle.arm.proofs.Fields.{not_short, legal_of, legal_element}
 use Rattle.arm.proofs.Masks.{mask_is}
 use Rattle.words.specs.Said.{no}
 use Rattle.logical_decoder.specs.Answer.{Decoded}
@@ -21,25 +21,25 @@ refused : {w n s r : ℕ} → IsWidth w → (Legal w n s r → ⊥) → Decoded 
 refused ww h = inr (refl, ww, h)
 
 -- the element length, and once every test is passed the fields are legal
-e-is : (c : tie.After-top-bit) → let a = c.before.before.before.before.before.args in c.top_bit.result ≡ esize a.n a.s
+e_is : (c : tie.After-top-bit) → let a = c.before.before.before.before.before.args in c.top_bit.result ≡ esize a.n a.s
 unfolding esize len
-e-is c = c.top_bit.ensures
+e_is c = c.top_bit.ensures
 
 legal : (c : tie.Else6) → let a = c.before.before.before.before.before.before.before.before.args in Legal a.w a.n a.s a.r
 legal c =
     let at = c.before.before.before in
-    legal-of (omega arith) (omega arith) (omega arith) (omega arith)
-    (λ q. c.if6.false (rw (c.before.below.ensures, e-is at) q))
-    (rw (e-is at) at c.before.before.if5.false)
+    legal_of (omega arith) (omega arith) (omega arith) (omega arith)
+    (λ q. c.if6.false (rw (c.before.below.ensures, e_is at) q))
+    (rw (e_is at) at c.before.before.if5.false)
 
 returns : tie.Need-returns
-returns c = refused c.before.requires.0 (λ h. omega (arith, h.n-bits, c.if1.true))
+returns c = refused c.before.requires.0 (λ h. omega (arith, h.n_bits, c.if1.true))
 
 returns-2 : tie.Need-returns-2
-returns-2 c = refused c.before.before.requires.0 (λ h. omega (arith, h.s-bits, c.if2.true))
+returns-2 c = refused c.before.before.requires.0 (λ h. omega (arith, h.s_bits, c.if2.true))
 
 returns-3 : tie.Need-returns-3
-returns-3 c = refused c.before.before.before.requires.0 (λ h. omega (arith, h.r-bits, c.if3.true))
+returns-3 c = refused c.before.before.before.requires.0 (λ h. omega (arith, h.r_bits, c.if3.true))
 
 returns-4 : tie.Need-returns-4
 returns-4 c = refused c.before.before.before.before.requires.0 (λ h. not_short h c.if4.true)
@@ -47,7 +47,7 @@ returns-4 c = refused c.before.before.before.before.requires.0 (λ h. not_short 
 returns-5 : tie.Need-returns-5
 returns-5 c =
     let ww = c.before.before.before.before.before.before.requires.0 in
-    refused ww (λ h. not-le_of_lt c.if5.true (rw (e-is c.before) (legal-element ww h).fits))
+    refused ww (λ h. not-le_of_lt c.if5.true (rw (e_is c.before) (legal_element ww h).fits))
 
 below-requires : tie.Need-below-requires
 below-requires c κs = (_, c.before.top_bit.ensures)
@@ -62,20 +62,20 @@ returns-6 : tie.Need-returns-6
 returns-6 c =
     let at = c.before.before.before in
     refused at.before.before.before.before.before.requires.0
-    (λ h. lt_irrefl _ (rw (← e-is at, ← c.before.below.ensures, c.if6.true) at h.not-all))
+    (λ h. lt_irrefl _ (rw (← e_is at, ← c.before.below.ensures, c.if6.true) at h.not-all))
 
 mask-of-requires : tie.Need-mask-of-requires
 mask-of-requires c κs =
     let at = c.before.before.before.before in
     let start = at.before.before.before.before.before in
     let h = legal c.before in
-    let pos : 0 < at.top_bit.result = rw (e-is at) (omega (arith, h.not-all)) in (
+    let pos : 0 < at.top_bit.result = rw (e_is at) (omega (arith, h.not-all)) in (
       start.requires.0,
       start.requires.1,
       start.requires.2,
-      rw (e-is at) (legal-element start.requires.0 h),
+      rw (e_is at) (legal_element start.requires.0 h),
       omega arith,
-      rw (c.before.before.below.ensures, e-is at) h.not-all,
+      rw (c.before.before.below.ensures, e_is at) h.not-all,
       rw c.below2.ensures (mod-lt start.args.r pos),
     )
 
@@ -84,11 +84,11 @@ returns-7 c =
     let at = c.before.before.before.before.before in
     let start = at.before.before.before.before.before in
     let a = start.args in
-    let mask = masked a.w a.n a.s a.r (e-is at) c.before.before.before.below.ensures c.before.below2.ensures c.mask-of.ensures in
+    let mask = masked a.w a.n a.s a.r (e_is at) c.before.before.before.below.ensures c.before.below2.ensures c.mask_of_lem.ensures in
     (start.requires.0, record { legal = legal c.before.before; mask = mask })
 
-pub decode-at-spec : {M : Type 1} → statement M
-decode-at-spec =
+pub decode_at_spec : {M : Type 1} → statement M
+decode_at_spec =
     tie.close
     (tie.spec
     returns

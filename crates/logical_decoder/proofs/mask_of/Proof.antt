@@ -3,7 +3,7 @@ use mathlib.Core.Path.{◌≡◌, ap, ◌∙◌}
 use Prim.Native.Nat.{ℕ, ◌*◌, ◌/◌, ◌≤◌, min}
 use native.Mathlib.Omega.{arith}
 use Rattle.arm.specs.Bits.{Ones}
-use Rattle.arm.proofs.Runs.{plain-copies, wrapped-copies}
+use Rattle.arm.proofs.Runs.{plain_copies, wrapped_copies}
 use Rattle.arm.proofs.Lengths.{whole}
 use borrow.Author.Rules.{rules}
 use Rattle.logical_decoder.proofs.mask_of.Statement.{statement}
@@ -27,16 +27,16 @@ sub-result c =
 returns : tie.Need-returns
 returns c =
     let a = c.before.before.args in
-    rw (plain-copies a.e a.l a.q (a.w / a.e) c.before.if1.true) c.repeated.ensures.0
+    rw (plain_copies a.e a.l a.q (a.w / a.e) c.before.if1.true) c.repeated.ensures.0
 
 returns-2 : tie.Need-returns-2
 returns-2 c =
     let start = c.before.before.before in
     let a = start.args in
-    let sum = wrapped-copies a.e a.l a.q (a.w / a.e) (omega arith) (omega arith) in
+    let sum = wrapped_copies a.e a.l a.q (a.w / a.e) (omega arith) (omega arith) in
     let ones = all a.w c.before.lsb-mask.result start.requires.1 c.before.lsb-mask.ensures in
     let same : Ones (a.e * (a.w / a.e)) ≡ Ones a.w = ap Ones (whole start.requires.0 start.requires.3) in
     omega (arith, sum, same, ones, c.repeated2.ensures.0)
 
-pub mask-of-spec : {M : Type 1} → statement M
-mask-of-spec = tie.close (tie.spec (search rules) repeated-requires (search rules) (search rules) (search rules) repeated-requires-2 sub-result returns returns-2)
+pub mask_of_spec : {M : Type 1} → statement M
+mask_of_spec = tie.close (tie.spec (search rules) repeated-requires (search rules) (search rules) (search rules) repeated-requires-2 sub-result returns returns-2)

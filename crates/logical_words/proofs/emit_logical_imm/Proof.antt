@@ -1,5 +1,5 @@
 -- `logical_words::emit_logical_imm` meets its contract. Assumes nothing.
-use Rattle.logical_words.proofs.Word.{word-listed}
+use Rattle.logical_words.proofs.Word.{word_listed}
 use borrow.Author.Rules.{rules}
 use Rattle.logical_words.proofs.emit_logical_imm.Statement.{statement}
 use Rattle.logical_words.proofs.emit_logical_imm.Tie as tie
@@ -9,7 +9,7 @@ returns c =
     let at = c.before.before in
     let a = at.before.before.before.before.args in
     let w = at.before.logical-word.ensures in
-    (w.0, w.1, rw (← word-listed a.operation a.width a.rn a.rd w.0 w.2) at.put.ensures)
+    (w.0, w.1, rw (← word_listed a.operation a.width a.rn a.rd w.0 w.2) at.put.ensures)
 
-pub emit-logical-imm-spec : {M : Type 1} → statement M
-emit-logical-imm-spec = tie.close (tie.spec (search rules) (search rules) (search rules) returns)
+pub emit_logical_imm_spec : {M : Type 1} → statement M
+emit_logical_imm_spec = tie.close (tie.spec (search rules) (search rules) (search rules) returns)

@@ -7,5 +7,5 @@ use Rattle.logical_words.proofs.placed.Tie as tie
 returns : tie.Need-returns
 returns c = refl
 
-pub placed-spec : {M : Type 1} → statement M
-placed-spec = tie.close (tie.spec (search rules) (search rules) (search rules) (search rules) (search rules) (search rules) (search rules) (search rules) (search rules) returns)
+pub placed_spec : {M : Type 1} → statement M
+placed_spec = tie.close (tie.spec (search rules) (search rules) (search rules) (search rules) (search rules) (search rules) (search rules) (search rules) (search rules) returns)

@@ -44,8 +44,8 @@ returns-5 c =
     simp (ne_eqb _ _ t.before.before.before.if1.false, ne_eqb _ _ t.before.before.if2.false, ne_eqb _ _ t.before.if3.false, ne_eqb _ _ t.if4.false)
     (c.two.ensures ∙ ap₂ (λ (a b : ℕ). words_of (a ∷ b ∷ [])) c.before.before.word5.ensures c.before.word6.ensures)
 
-pub encode-mov-sequence32-spec : {M : Type 1} → statement M
-encode-mov-sequence32-spec =
+pub encode_mov_sequence32_spec : {M : Type 1} → statement M
+encode_mov_sequence32_spec =
     tie.close
     (tie.spec
     (search rules) (search rules) returns (search rules) (search rules) (search rules) returns-2 (search rules) (search rules) returns-3

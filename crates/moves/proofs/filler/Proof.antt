@@ -23,5 +23,5 @@ returns-2 c =
     let t : count 0 v < count 0xFFFF v = omega arith in
     record { is = sym (simp (lt-leb _ _ t)); small = omega arith }
 
-pub filler-spec : {M : Type 1} → statement M
-filler-spec = tie.close (tie.spec (search rules) returns returns-2)
+pub filler_spec : {M : Type 1} → statement M
+filler_spec = tie.close (tie.spec (search rules) returns returns-2)

@@ -13,5 +13,5 @@ returns-2 : tie.Need-returns-2
 unfolding lead
 returns-2 c = simp (ne_eqb _ _ c.if1.false)
 
-pub lead-spec : {M : Type 1} → statement M
-lead-spec = tie.close (tie.spec (search rules) returns returns-2)
+pub lead_spec : {M : Type 1} → statement M
+lead_spec = tie.close (tie.spec (search rules) returns returns-2)

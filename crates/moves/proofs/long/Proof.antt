@@ -4,7 +4,7 @@ use lib.Dec.{leb}
 use Rattle.halfwords.specs.Halfwords.{count}
 use Rattle.moves.specs.Moves.{long}
 use Rattle.moves.specs.Steps.{filler}
-use Rattle.moves.proofs.Lists.{long-by}
+use Rattle.moves.proofs.Lists.{long_by}
 use borrow.Author.Rules.{rules}
 use Rattle.moves.proofs.long.Statement.{statement}
 use Rattle.moves.proofs.long.Tie as tie
@@ -17,8 +17,8 @@ returns c =
     let s = q.before.before in
     let v = s.args.imm in
     c.lead.ensures
-    ∙ long-by s.args.rd s.requires v (leb (count 0xFFFF v) (count 0 v)) q.before.filler.ensures.is b.base.ensures.is
+    ∙ long_by s.args.rd s.requires v (leb (count 0xFFFF v) (count 0 v)) q.before.filler.ensures.is b.base.ensures.is
     c.before.first.ensures q.rest.ensures
 
-pub long-spec : {M : Type 1} → statement M
-long-spec = tie.close (tie.spec (search rules) (search rules) (search rules) (search rules) (search rules) (search rules) returns)
+pub long_spec : {M : Type 1} → statement M
+long_spec = tie.close (tie.spec (search rules) (search rules) (search rules) (search rules) (search rules) (search rules) returns)

@@ -6,17 +6,17 @@ use borrow.Author.Tests.{lt-ltb, le-ltb, le-leb, lt-leb}
 use Rattle.words.specs.Said.{ok}
 use Rattle.words.specs.Listed.{words_of}
 use Rattle.halfwords.specs.Halfwords.{half}
-use Rattle.moves.specs.Moves.{short, movWords, movSaid}
+use Rattle.moves.specs.Moves.{short, words_of_move, mov_said}
 use borrow.Author.Rules.{rules}
 use Rattle.moves.proofs.mov_words.Statement.{statement}
 use Rattle.moves.proofs.mov_words.Tie as tie
 
 returns : tie.Need-returns
-unfolding movSaid
+unfolding mov_said
 returns c = simp (lt-ltb 30 c.before.args.rd (omega arith))
 
 returns-2 : tie.Need-returns-2
-unfolding movSaid movWords
+unfolding mov_said words_of_move
 returns-2 c =
     let a = c.before.before.before.args in
     let v = a.imm in
@@ -26,10 +26,10 @@ returns-2 c =
     (ap ok (c.encode-mov-sequence32.ensures ∙ ap₂ (λ (x y : ℕ). words_of (short x y a.rd)) hi lo))
 
 returns-3 : tie.Need-returns-3
-unfolding movSaid movWords
+unfolding mov_said words_of_move
 returns-3 c =
     let a = c.before.before.before.args in
     simp (le-ltb 30 a.rd (omega arith), lt-leb a.imm 0xFFFFFFFF (omega arith)) (ap ok c.long.ensures)
 
-pub mov-words-spec : {M : Type 1} → statement M
-mov-words-spec = tie.close (tie.spec returns (search rules) (search rules) returns-2 (search rules) returns-3)
+pub mov_words_spec : {M : Type 1} → statement M
+mov_words_spec = tie.close (tie.spec returns (search rules) (search rules) returns-2 (search rules) returns-3)

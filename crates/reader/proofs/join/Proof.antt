@@ -7,7 +7,7 @@ use borrow.Author.Rules.{rules}
 use borrow.Author.Tests.{not-true, not-false}
 use lib.ListN.{length}
 use Rattle.items.proofs.Cases.{wide_back}
-use Rattle.reader.proofs.Joins.{fields-small, Joining, starts, onward, stopped, at-end, size-le}
+use Rattle.reader.proofs.Joins.{fields_small, Joining, starts, onward, stopped, at-end, size-le}
 use Rattle.reader.proofs.join.Statement.{statement}
 use Rattle.reader.proofs.join.Tie as tie
 
@@ -18,7 +18,7 @@ abbrev decreases-loop : tie.decreases-loop
 decreases-loop words at sf rd value₀ i₀ value i = length words - i
 
 first-value-requires : tie.Need-first-value-requires invariant-loop decreases-loop
-first-value-requires c κs = fields-small _ (wide_back _ c.before.requires.read)
+first-value-requires c κs = fields_small _ (wide_back _ c.before.requires.read)
 
 loop-holds : tie.Need-loop-init invariant-loop decreases-loop
 loop-holds c = starts c.before.before.requires c.first-value.ensures
@@ -48,8 +48,8 @@ sub-joined-2 c = omega (arith, c.before.loop.invariant.low)
 returns-2 : tie.Need-returns-2 invariant-loop decreases-loop
 returns-2 c = c.joined2.ensures ∙ at-end c.before.before.loop.invariant c.before.loop-test.false
 
-pub join-spec : {M : Type 1} → statement M
-join-spec =
+pub join_spec : {M : Type 1} → statement M
+join_spec =
     tie.close
     (tie.spec
     invariant-loop

@@ -36,8 +36,8 @@ returns-6 c = c.single3.ensures ∙ displaced _ _ (omega arith) c.before.before.
 returns-7 : tie.Need-returns-7
 returns-7 c = c.single4.ensures ∙ unknown _ _ (omega arith) c.before.before.before.read_word.ensures c.before.enum-told3.given.1
 
-pub read-at-spec : {M : Type 1} → statement M
-read-at-spec =
+pub read_at_spec : {M : Type 1} → statement M
+read_at_spec =
     tie.close
     (tie.spec
     returns

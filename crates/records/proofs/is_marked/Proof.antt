@@ -13,5 +13,5 @@ returns-2 : tie.Need-returns-2
 unfolding marked
 returns-2 c = simp (ne_eqb _ _ c.if1.false)
 
-pub is-marked-spec : {M : Type 1} → statement M
-is-marked-spec = tie.close (tie.spec (search rules) (search rules) returns returns-2)
+pub is_marked_spec : {M : Type 1} → statement M
+is_marked_spec = tie.close (tie.spec (search rules) (search rules) returns returns-2)

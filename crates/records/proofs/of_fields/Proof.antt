@@ -16,5 +16,5 @@ returns-2 c =
     let h = rw c.before.r.given.1 at c.before.before.before.encode-logical-imm.ensures in
     record { item = _; line = refl; plain = tt; says = (no _, h, refl) }
 
-pub of-fields-spec : {M : Type 1} → statement M
-of-fields-spec = tie.close (tie.spec (search rules) (search rules) (search rules) (search rules) returns returns-2)
+pub of_fields_spec : {M : Type 1} → statement M
+of_fields_spec = tie.close (tie.spec (search rules) (search rules) (search rules) (search rules) returns returns-2)

@@ -16,5 +16,5 @@ returns-2 c =
     let h = rw c.before.r.given.1 at c.before.before.before.encode-fp-to-imm8.ensures in
     record { item = _; line = refl; plain = tt; says = (no _, h, refl) }
 
-pub of-float-spec : {M : Type 1} → statement M
-of-float-spec = tie.close (tie.spec (search rules) (search rules) (search rules) (search rules) (search rules) returns returns-2)
+pub of_float_spec : {M : Type 1} → statement M
+of_float_spec = tie.close (tie.spec (search rules) (search rules) (search rules) (search rules) (search rules) returns returns-2)

@@ -12,5 +12,5 @@ returns-2 c = simp (ne_eqb _ _ c.before.if1.false, lt-ltb _ _ c.if2.true)
 returns-3 : tie.Need-returns-3
 returns-3 c = simp (ne_eqb _ _ c.before.if1.false, le-ltb _ _ c.if2.false)
 
-pub tail-spec : {M : Type 1} → statement M
-tail-spec = tie.close (tie.spec returns returns-2 returns-3)
+pub tail_spec : {M : Type 1} → statement M
+tail_spec = tie.close (tie.spec returns returns-2 returns-3)

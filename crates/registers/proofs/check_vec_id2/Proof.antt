@@ -9,5 +9,5 @@ returns c = rw (← c.before.before.check-vec-id.ensures, c.before.if1.true) c.c
 returns-2 : tie.Need-returns-2
 returns-2 c = rw (← c.before.check-vec-id.ensures, c.if1.false) refl
 
-pub check-vec-id2-spec : {M : Type 1} → statement M
-check-vec-id2-spec = tie.close (tie.spec (search rules) (search rules) returns returns-2)
+pub check_vec_id2_spec : {M : Type 1} → statement M
+check_vec_id2_spec = tie.close (tie.spec (search rules) (search rules) returns returns-2)

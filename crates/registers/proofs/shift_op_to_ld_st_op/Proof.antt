@@ -10,5 +10,5 @@ returns c = simp (lt-ltb _ _ c.if1.true)
 returns-2 : tie.Need-returns-2
 returns-2 c = simp (le-ltb _ _ c.before.if1.false) (ap ok c.wide.ensures)
 
-pub shift-op-to-ld-st-op-spec : {M : Type 1} → statement M
-shift-op-to-ld-st-op-spec = tie.close (tie.spec returns (search rules) (search rules) returns-2)
+pub shift_op_to_ld_st_op_spec : {M : Type 1} → statement M
+shift_op_to_ld_st_op_spec = tie.close (tie.spec returns (search rules) (search rules) returns-2)

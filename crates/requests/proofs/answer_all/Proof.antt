@@ -12,5 +12,5 @@ invariant-loop bytes₀ out₀ turns₀ bytes out turns = 72 ≡ length bytes
 abbrev decreases-loop : tie.decreases-loop
 decreases-loop bytes₀ out₀ turns₀ bytes out turns = turns
 
-pub answer-all-spec : {M : Type 1} → statement M
-answer-all-spec = tie.close (tie.spec invariant-loop decreases-loop (search rules) (search rules) (search rules) (search rules) (search rules) (search rules) (search rules) (search rules) (search rules))
+pub answer_all_spec : {M : Type 1} → statement M
+answer_all_spec = tie.close (tie.spec invariant-loop decreases-loop (search rules) (search rules) (search rules) (search rules) (search rules) (search rules) (search rules) (search rules) (search rules))

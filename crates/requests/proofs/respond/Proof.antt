@@ -8,5 +8,5 @@ use Rattle.requests.proofs.respond.Tie as tie
 slice-aggregate-write-all : tie.Need-slice-aggregate-write-all
 slice-aggregate-write-all c = simp length-take (omega arith)
 
-pub respond-spec : {M : Type 1} → statement M
-respond-spec = tie.close (tie.spec (search rules) (search rules) (search rules) slice-aggregate-write-all (search rules) (search rules) (search rules) (search rules) (search rules))
+pub respond_spec : {M : Type 1} → statement M
+respond_spec = tie.close (tie.spec (search rules) (search rules) (search rules) slice-aggregate-write-all (search rules) (search rules) (search rules) (search rules) (search rules))

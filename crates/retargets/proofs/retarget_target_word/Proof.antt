@@ -7,21 +7,21 @@ use borrow.Author.Rules.{rules}
 use Rattle.words.specs.Said.{Said}
 use Rattle.words.specs.Listed.{packed}
 use Rattle.words.specs.declared.Words.{Words}
-use Rattle.disp_targets.specs.Target.{page_of, between, targetSaid, low_of, carrying}
+use Rattle.disp_targets.specs.Target.{page_of, between, target_said, low_of, carrying}
 use Rattle.retargets.specs.declared.Standing.{Standing}
-use Rattle.retargets.specs.Retarget.{standingSaid, againTo}
-use Rattle.retargets.proofs.Answers.{again-7, again-there, again-missing}
+use Rattle.retargets.specs.Retarget.{standing_said, again_to}
+use Rattle.retargets.proofs.Answers.{again_7, again_there, again_missing}
 use Rattle.retargets.proofs.retarget_target_word.Statement.{statement}
 use Rattle.retargets.proofs.retarget_target_word.Tie as tie
 
 -- what is said, and the low bits beside it
-abbrev with-low : ℕ → ℕ → Said (List ℕ) → Said (Words × Option ℕ)
-with-low n t s = carrying (low_of n t) (packed s)
+abbrev with_low : ℕ → ℕ → Said (List ℕ) → Said (Words × Option ℕ)
+with_low n t s = carrying (low_of n t) (packed s)
 
 returns : tie.Need-returns
 returns c =
     let a = c.before.args in
-    sym (ap (with-low a.format a.target.0) (again-7 a.format (between (page_of a.format a.target.0) (page_of a.format a.address.0)) (standingSaid a.there) c.if1.true))
+    sym (ap (with_low a.format a.target.0) (again_7 a.format (between (page_of a.format a.target.0) (page_of a.format a.address.0)) (standing_said a.there) c.if1.true))
 
 returns-2 : tie.Need-returns-2
 returns-2 c =
@@ -32,9 +32,9 @@ returns-2 c =
     let t = a.target.0 in
     let o = a.address.0 in
     c.disp-target-word.ensures
-    ∙ ap (λ (w : ℕ). with-low n t (targetSaid n w t o)) k.clear-disp.ensures
-    ∙ sym (ap (with-low n t) (again-there n (between (page_of n t) (page_of n o)) _ there.before.before.if1.false))
-    ∙ sym (ap (λ (x : Standing). with-low n t (againTo n (standingSaid x) t o)) there.there.given.1)
+    ∙ ap (λ (w : ℕ). with_low n t (target_said n w t o)) k.clear-disp.ensures
+    ∙ sym (ap (with_low n t) (again_there n (between (page_of n t) (page_of n o)) _ there.before.before.if1.false))
+    ∙ sym (ap (λ (x : Standing). with_low n t (again_to n (standing_said x) t o)) there.there.given.1)
 
 returns-3 : tie.Need-returns-3
 returns-3 c =
@@ -43,8 +43,8 @@ returns-3 c =
     let n = a.format in
     let t = a.target.0 in
     let o = a.address.0 in
-    sym (ap (with-low n t) (again-missing n (between (page_of n t) (page_of n o)) _ there.before.before.if1.false))
-    ∙ sym (ap (λ (x : Standing). with-low n t (againTo n (standingSaid x) t o)) there.there2.given.1)
+    sym (ap (with_low n t) (again_missing n (between (page_of n t) (page_of n o)) _ there.before.before.if1.false))
+    ∙ sym (ap (λ (x : Standing). with_low n t (again_to n (standing_said x) t o)) there.there2.given.1)
 
-pub retarget-target-word-spec : {M : Type 1} → statement M
-retarget-target-word-spec = tie.close (tie.spec returns (search rules) (search rules) (search rules) (search rules) returns-2 returns-3)
+pub retarget_target_word_spec : {M : Type 1} → statement M
+retarget_target_word_spec = tie.close (tie.spec returns (search rules) (search rules) (search rules) (search rules) returns-2 returns-3)

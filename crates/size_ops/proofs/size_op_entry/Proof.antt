@@ -9,7 +9,7 @@ returns c =
     let a = c.args in
     rule a.table a.kind a.element c.requires.0 c.requires.1 c.requires.2
 
-pub size-op-entry-spec : {M : Type 1} → statement M
-size-op-entry-spec =
+pub size_op_entry_spec : {M : Type 1} → statement M
+size_op_entry_spec =
     tie.close
     (tie.spec (search rules) (search rules) (search rules) (search rules) (search rules) (search rules) (search rules) (search rules) (search rules) returns)

@@ -19,5 +19,5 @@ returns c = let a = c.before.args in sym (lt-leb (a.i + a.n) a.room (omega arith
 returns-2 : tie.Need-returns-2
 returns-2 c = let a = c.before.args in left a.room a.i a.n (leb a.n (a.room - a.i)) (omega arith) refl
 
-pub fits-spec : {M : Type 1} → statement M
-fits-spec = tie.close (tie.spec returns returns-2)
+pub fits_spec : {M : Type 1} → statement M
+fits_spec = tie.close (tie.spec returns returns-2)

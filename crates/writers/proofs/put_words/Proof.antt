@@ -5,9 +5,9 @@ use native.Mathlib.Omega.{arith}
 use borrow.Author.Tests.{leb-true, leb-false}
 use lib.ListN.{length, length-take}
 use Rattle.words.specs.Listed.{list_of}
-use Rattle.words.specs.Place.{posOf}
-use Rattle.writers.specs.Put.{atBase}
-use Rattle.writers.proofs.Writes.{at-fits, at-full}
+use Rattle.words.specs.Place.{pos_of}
+use Rattle.writers.specs.Put.{based_at}
+use Rattle.writers.proofs.Writes.{at_fits, at_full}
 use borrow.Author.Rules.{rules}
 use Rattle.writers.proofs.put_words.Statement.{statement}
 use Rattle.writers.proofs.put_words.Tie as tie
@@ -16,14 +16,14 @@ store-all-requires : tie.Need-store-all-requires
 store-all-requires c κs =
     let c0 = c.before.before in
     let a = c0.before.before.before.args in
-    let there : posOf a.at + c0.before.least.result ≤ length a.words.now = leb-true _ _ (sym c0.fits2.ensures ∙ c.before.if1.true) in
+    let there : pos_of a.at + c0.before.least.result ≤ length a.words.now = leb-true _ _ (sym c0.fits2.ensures ∙ c.before.if1.true) in
     (c0.before.least.ensures, there)
 
 past-requires : tie.Need-past-requires
 past-requires c κs =
     let c0 = c.before.before.before.before in
     let a = c0.before.before.before.before.args in
-    let there : posOf a.at + c0.before.before.least.result ≤ length a.words.now = leb-true _ _ (sym c0.before.fits2.ensures ∙ c0.if1.true) in
+    let there : pos_of a.at + c0.before.before.least.result ≤ length a.words.now = leb-true _ _ (sym c0.before.fits2.ensures ∙ c0.if1.true) in
     omega arith
 
 returns : tie.Need-returns
@@ -33,13 +33,13 @@ returns c =
     let e : length (list_of a.f) ≡ c0.before.before.least.result = simp length-take (sym c0.before.before.least.ensures) in
     let there = leb-true _ _ (sym c0.before.fits2.ensures ∙ c0.if1.true) in
     rw (c.past.ensures, sym e, c.before.before.before.store-all.ensures)
-    (sym (ap (atBase a.at.base) (at-fits a.words.now (posOf a.at) (list_of a.f) (rw e there))))
+    (sym (ap (based_at a.at.base) (at_fits a.words.now (pos_of a.at) (list_of a.f) (rw e there))))
 
 returns-2 : tie.Need-returns-2
 returns-2 c =
     let a = c.before.before.before.before.args in
     let past = leb-false _ _ (sym c.before.fits2.ensures ∙ c.if1.false) in
-    sym (ap (atBase a.at.base) (at-full _ _ _ (simp length-take (rw (sym c.before.before.least.ensures) past))))
+    sym (ap (based_at a.at.base) (at_full _ _ _ (simp length-take (rw (sym c.before.before.least.ensures) past))))
 
-pub put-words-spec : {M : Type 1} → statement M
-put-words-spec = tie.close (tie.spec (search rules) (search rules) store-all-requires past-requires (search rules) returns returns-2)
+pub put_words_spec : {M : Type 1} → statement M
+put_words_spec = tie.close (tie.spec (search rules) (search rules) store-all-requires past-requires (search rules) returns returns-2)

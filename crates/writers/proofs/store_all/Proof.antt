@@ -2,7 +2,7 @@
 use mathlib.Core.Path.{◌≡◌, refl}
 use Prim.Native.Nat.{◌<◌}
 use native.Mathlib.Omega.{arith}
-use Rattle.writers.proofs.Stores.{word-stores}
+use Rattle.writers.proofs.Stores.{word_stores}
 use borrow.Author.Rules.{rules}
 use Rattle.writers.proofs.store_all.Statement.{statement}
 use Rattle.writers.proofs.store_all.Tie as tie
@@ -23,7 +23,7 @@ returns-2 c =
       c.before.before.before.before.before.before.before.before.before.before.store2.ensures,
       c.before.before.before.before.before.before.before.before.before.before.before.before.before.before.store.ensures,
       c0.before.requires.0,
-    ) (word-stores a.f.count a.i a.f.a a.f.b a.f.c a.f.d a.words.now some)
+    ) (word_stores a.f.count a.i a.f.a a.f.b a.f.c a.f.d a.words.now some)
 
-pub store-all-spec : {M : Type 1} → statement M
-store-all-spec = tie.close (tie.spec returns (search rules) (search rules) (search rules) (search rules) (search rules) (search rules) returns-2)
+pub store_all_spec : {M : Type 1} → statement M
+store_all_spec = tie.close (tie.spec returns (search rules) (search rules) (search rules) (search rules) (search rules) (search rules) returns-2)

@@ -25,5 +25,5 @@ returns-2 c =
       c0.before.requires.0,
     ) (byte-stores a.f.count a.i a.f.a a.f.b a.f.c a.f.d a.bytes.now some)
 
-pub store-all-bytes-spec : {M : Type 1} → statement M
-store-all-bytes-spec = tie.close (tie.spec returns (search rules) (search rules) (search rules) (search rules) (search rules) (search rules) returns-2)
+pub store_all_bytes_spec : {M : Type 1} → statement M
+store_all_bytes_spec = tie.close (tie.spec returns (search rules) (search rules) (search rules) (search rules) (search rules) (search rules) returns-2)

@@ -13,8 +13,8 @@ returns c =
     rw (four.place-byte4.ensures, three.place-byte3.ensures, two.place-byte2.ensures, one.place_byte.ensures, one.before.before.least.ensures)
     (simp towards_suc)
 
-pub store-bytes-spec : {M : Type 1} → statement M
-store-bytes-spec =
+pub store_bytes_spec : {M : Type 1} → statement M
+store_bytes_spec =
     tie.close
     (tie.spec (search rules) (search rules) (search rules) (search rules) (search rules) (search rules) (search rules) (search rules) (search rules)
     (search rules) (search rules) (search rules) (search rules) (search rules) (search rules) returns)

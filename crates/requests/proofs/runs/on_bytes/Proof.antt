@@ -5,11 +5,11 @@ use borrow.Author.Rules.{rules}
 use Rattle.requests.proofs.runs.on_bytes.Statement.{statement}
 use Rattle.requests.proofs.runs.on_bytes.Tie as tie
 
-slice-aggregate-in-bytes : tie.Need-slice-aggregate-in-bytes
-slice-aggregate-in-bytes c = simp length-take (omega arith)
+slice_aggregate_in_bytes : tie.Need-slice-aggregate-in-bytes
+slice_aggregate_in_bytes c = simp length-take (omega arith)
 
-in-bytes-requires : tie.Need-in-bytes-requires
-in-bytes-requires c κs = simp length-take (omega arith)
+in_bytes_requires : tie.Need-in-bytes-requires
+in_bytes_requires c κs = simp length-take (omega arith)
 
-pub on-bytes-spec : {M : Type 1} → statement M
-on-bytes-spec = tie.close (tie.spec (search rules) slice-aggregate-in-bytes in-bytes-requires (search rules) (search rules))
+pub on_bytes_spec : {M : Type 1} → statement M
+on_bytes_spec = tie.close (tie.spec (search rules) slice_aggregate_in_bytes in_bytes_requires (search rules) (search rules))

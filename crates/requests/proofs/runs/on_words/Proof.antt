@@ -5,8 +5,8 @@ use borrow.Author.Rules.{rules}
 use Rattle.requests.proofs.runs.on_words.Statement.{statement}
 use Rattle.requests.proofs.runs.on_words.Tie as tie
 
-slice-aggregate-in-words : tie.Need-slice-aggregate-in-words
-slice-aggregate-in-words c = simp length-take (omega arith)
+slice_aggregate_in_words : tie.Need-slice-aggregate-in-words
+slice_aggregate_in_words c = simp length-take (omega arith)
 
-pub on-words-spec : {M : Type 1} → statement M
-on-words-spec = tie.close (tie.spec (search rules) slice-aggregate-in-words (search rules) (search rules) (search rules))
+pub on_words_spec : {M : Type 1} → statement M
+on_words_spec = tie.close (tie.spec (search rules) slice_aggregate_in_words (search rules) (search rules) (search rules))

@@ -5,8 +5,8 @@ use borrow.Author.Rules.{rules}
 use Rattle.requests.proofs.runs.packed_lines.Statement.{statement}
 use Rattle.requests.proofs.runs.packed_lines.Tie as tie
 
-slice-aggregate-run-lines : tie.Need-slice-aggregate-run-lines
-slice-aggregate-run-lines c = simp length-take (omega arith)
+slice_aggregate_run_lines : tie.Need-slice-aggregate-run-lines
+slice_aggregate_run_lines c = simp length-take (omega arith)
 
-pub packed-lines-spec : {M : Type 1} → statement M
-packed-lines-spec = tie.close (tie.spec (search rules) (search rules) (search rules) slice-aggregate-run-lines (search rules) (search rules) (search rules))
+pub packed_lines_spec : {M : Type 1} → statement M
+packed_lines_spec = tie.close (tie.spec (search rules) (search rules) (search rules) slice_aggregate_run_lines (search rules) (search rules) (search rules))
