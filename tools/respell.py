@@ -66,7 +66,7 @@ for p in glob.glob(KIT + "/**/*.antt", recursive=True):
         if "-" in t[1:] or re.search(r"[a-z0-9][A-Z]", t):
             library.add(t)
 
-DEFINED = re.compile(r"^(\s*)(?:abbrev |unfoldable |pub )*([^\s(){}\[\]:;.,«»\"`]+)\s*:\s(.*)$")
+DEFINED = re.compile(r"^(\s*)(?:abbrev |unfoldable |pub )*([^\s(){}\[\]:;.,«»\"`]+)\s*:(?:\s(.*))?$")
 NAMED = re.compile(r"^\s*(?:pub |abbrev |unfoldable )*(?:data|record|ruleset|module)\s+([^\s(){}\[\]:;.,«»\"`]+)")
 own, plain = {}, set()
 for p in files:
@@ -74,7 +74,7 @@ for p in files:
     for line in code(open(p, encoding="utf-8").read()).split("\n"):
         m = DEFINED.match(line)
         if m and m.group(2) not in ("_", "λ"):
-            name, kind = m.group(2), m.group(3)
+            name, kind = m.group(2), m.group(3) or ""
             if goals and (MADE.match(name) or re.match(r"(tie|goal)\.", kind)):
                 kept.add(name)
                 continue
@@ -164,6 +164,10 @@ for p in sources:
     if done != text:
         open(p, "w", encoding="utf-8").write(done)
 
+if os.path.exists("docs/PORT-NAMES.txt"):
+    with open("docs/PORT-NAMES.txt", encoding="utf-8") as f:
+        for line in f.read().split("\n")[1:-1]:
+            new.setdefault(*line.split(" -> "))
 with open("docs/PORT-NAMES.txt", "w", encoding="utf-8") as f:
     f.write("old name -> new name, of definitions, lemmas and fields, by tools/respell.py\n")
     for name in sorted(new):
@@ -171,4 +175,4 @@ with open("docs/PORT-NAMES.txt", "w", encoding="utf-8") as f:
 print(len(own), "own names,", len(new), "respelled;", sum(v.endswith("_lem") for v in new.values()), "end in _lem")
 for name in sorted(new):
     if new[name].endswith("_lem"):
-        print(name, new[name], own[name])
+        print(name, new[name], own.get(name, "by an earlier run"))

@@ -10,20 +10,20 @@ use Rattle.forms.specs.Form.{is_of_form}
 use Rattle.displacements.specs.Answer.{place_said}
 use Rattle.disp_targets.specs.Target.{target_said, low_of, carrying}
 
-pub written-right :
+pub written_right :
     Worked
     ((target_said 4 0x10000000 0x3000 0x1FFF, no 11)  -- an ADR word at ADRP
     ∷ (target_said 0 0x14000000 0 0xFFFFFFFFFFFFFFFC, ok (0x14000001 ∷ []))  -- over the end of the addresses
     ∷ (target_said 0 0x14000000 (2 ^ 63) 0, no 5)
     ∷ [])
 unfolding place_said is_of_form
-written-right = refl
+written_right = refl
 
 -- the word and the low bits of a target
 abbrev told : (n b t a : ℕ) → Said (List ℕ × Option ℕ)
 told n b t a = carrying (low_of n t) (target_said n b t a)
 
-pub targets-right :
+pub targets_right :
     Worked
     ((told 4 0x90000000 0x3000 0x1FFF, ok (0xD0000000 ∷ [], some 0))  -- two pages on
     ∷ (told 4 0x90000000 0x3004 0x1000, ok (0xD0000000 ∷ [], some 4))  -- inside a page
@@ -44,7 +44,7 @@ pub targets-right :
     ∷ (told 6 0x90000000 0x3004 0x1000, no 7)
     ∷ [])
 unfolding place_said is_of_form
-targets-right = refl
+targets_right = refl
 
 -- a target written from a place of a run of four words
 abbrev run : List ℕ
@@ -53,7 +53,7 @@ run = 1 ∷ 2 ∷ 3 ∷ 4 ∷ []
 abbrev from : (base position n b t : ℕ) → Said Place × List ℕ
 from base position n b t = let at = place_at base position in put_of run at (target_said n b t (address_of at))
 
-pub places-right :
+pub places_right :
     Worked
     ((from 0 3 0 0x14000000 0x1000, (ok (place_at 0 4), 1 ∷ 2 ∷ 3 ∷ 0x140003FD ∷ []))
     ∷ (from 0x1000 3 0 0x14000000 0x1000, (ok (place_at 0x1000 4), 1 ∷ 2 ∷ 3 ∷ 0x17FFFFFD ∷ []))
@@ -70,4 +70,4 @@ pub places-right :
     ∷ (from 2 4 6 0x10000001 2, (no 15, run))  -- 15 before 7
     ∷ [])
 unfolding place_said is_of_form put_of put_at based
-places-right = refl
+places_right = refl

@@ -5,7 +5,7 @@ use Rattle.words.specs.Said.{ok, no}
 use Rattle.forms.specs.Form.{is_of_form}
 use Rattle.displacements.specs.Answer.{place_said, disp_said, read_said}
 
-pub written-right :
+pub written_right :
     Worked
     ((disp_said 3 0x10000000 (pos 5), ok (0x30000020 ∷ []))  -- "Run only"
     ∷ (disp_said 0 0x14000000 (pos 2), no 4)
@@ -24,7 +24,7 @@ pub written-right :
     ∷ (disp_said 4 0x90000000 (pos 0x2004), no 4)  -- by distance, off a page
     ∷ [])
 unfolding place_said is_of_form
-written-right = refl
+written_right = refl
 
 pub read_right :
     Worked

@@ -6,7 +6,7 @@ use Rattle.arm.proofs.Worked.{Worked}
 use Rattle.words.specs.Said.{ok, no}
 use Rattle.forms.specs.Form.{is_of_form, form_said}
 
-pub forms-right :
+pub forms_right :
     Worked
     ((form_said 0 0x17FFFFFF, ok true)  -- whatever the field holds
     ∷ (form_said 1 0x17FFFFFF, ok false)
@@ -17,4 +17,4 @@ pub forms-right :
     ∷ (form_said 6 0x14000000, no 7)
     ∷ [])
 unfolding is_of_form
-forms-right = refl
+forms_right = refl

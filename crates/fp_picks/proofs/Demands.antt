@@ -13,18 +13,18 @@ module _ (kind sbase srow sbase' srow' vbase vrow vbase' vrow' : ℕ) where
   unfolding pick_of
   scalar_only = refl
 
-  pub vector-only :
+  pub vector_only :
       (element : ℕ) → (element ≡ none → ⊥)
       → pick_of kind element sbase srow vbase vrow ≡ pick_of kind element sbase' srow' vbase vrow
   unfolding pick_of
-  vector-only element h = simp (ne_eqb element none h)
+  vector_only element h = simp (ne_eqb element none h)
 
 -- "A zero base is tested before bit 30": a zero base at Vec128, where bit 30 would make a word of it, is 10
-pub zero-at-vec128 :
+pub zero_at_vec128 :
     (element sbase srow vrow : ℕ) → H ≤ element → element ≤ D → vrow ≤ 5 → bit_of (row_at vrow).sizes (element - H) ≡ true
     → pick_of Vec128 element sbase srow 0 vrow ≡ no 10
 unfolding pick_of vector_of word_of
-zero-at-vec128 element sbase srow vrow first last few has =
+zero_at_vec128 element sbase srow vrow first last few has =
     simp (
       le-ltb 7 element (omega arith),
       ne_eqb element none (λ z. omega arith),
@@ -66,10 +66,10 @@ known base true e a f = inl refl
 known base false true a f = inl refl
 known base false false a f = f
 
-pub pick-fair :
+pub pick_fair :
     (kind element sbase srow vbase vrow : ℕ) → PickFair (cond (eqb element none) sbase vbase) (pick_of kind element sbase srow vbase vrow)
 unfolding pick_of
-pick-fair kind element sbase srow vbase vrow = by (eqb element none)
+pick_fair kind element sbase srow vbase vrow = by (eqb element none)
   where
     by : (t : Bool) → PickFair (cond t sbase vbase)
         (cond (ltb 7 kind) (no 7) (cond (ltb 7 element) (no 7) (cond t (scalar_of kind sbase srow) (vector_of kind element vbase vrow))))

@@ -15,7 +15,7 @@ use Rattle.labels.specs.declared.Use.{Use}
 use Rattle.labels.specs.Order.{first, answer}
 use Rattle.labels.specs.Sheet.{room_for, names, bind_tests, bind_of, use_record, use_of, target, finish_of, filled}
 use Rattle.labels.proofs.Tests.{Coded, numbers, first_coded}
-use Rattle.labels.proofs.Finishing.{none, room_below, number_of_use, number_of_finish, Finished, finished, finish-arrives}
+use Rattle.labels.proofs.Finishing.{none, room_below, number_of_use, number_of_finish, Finished, finished, finish_arrives}
 use Rattle.labels.proofs.Coded.{may_room, may_coded, finish_coded}
 use Rattle.labels.proofs.Edges.{bind_15, use_15, finish_15}
 use Rattle.host.specs.Number.{Reads, refusal_in, value_in}
@@ -118,7 +118,7 @@ module _ (ls ws ws' : List ℕ) (us : List Use) (n : ℕ) (at : Place) (answered
     pub finish_labels_arrives : refusal_in answered ≡ 0
         → (page_of item.format (address_of (place_at (base_of at) item.at)) + offset item.format (get_or ws' item.at 0)) % 2 ^ 64
         ≡ page_of item.format (address_of (place_at (base_of at) (target ls item)))
-    finish_labels_arrives z = finish-arrives at ls ws us n 0 ws' (all_done z) i m
+    finish_labels_arrives z = finish_arrives at ls ws us n 0 ws' (all_done z) i m
 
   pub finish_labels_15 : (Aligned at → ⊥) → (answered ≡ 15) × (ws' ≡ ws)
   finish_labels_15 o =

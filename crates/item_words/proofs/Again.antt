@@ -85,7 +85,7 @@ module _ (w : ℕ) (l : w < 2 ^ 32) (t : IsLogical w) where
       subst P (ap (word_of (bits 30 29 w) (datasize sf) (bits 9 5 w) (bits 4 0 w)) is ∙ word_again) p
 
   -- "and whose normal spelling means the same": it is read as the same operation, width, registers, value, N, S and length, R reduced, and normal
-  pub normal-spelling :
+  pub normal_spelling :
       item_of (turned w q)
       ≡ item.Logical (record {
         operation = bits 30 29 w;
@@ -99,7 +99,7 @@ module _ (w : ℕ) (l : w < 2 ^ 32) (t : IsLogical w) where
         length = esize n s;
         normal = true;
       })
-  normal-spelling =
+  normal_spelling =
       let d = fields_again in
       let m = decoded sf (bits 30 29 w) n q s (bits 9 5 w) (bits 4 0 w) (omega arith) (omega arith) d.1.legal (omega arith) (omega arith) in
       logical_read (turned w q) _ (ap decode_logical (sym (spelled_turned q)) ∙ m)

@@ -31,7 +31,7 @@ forth = use_record 1 (at 0) 1
 abbrev back : Use
 back = use_record 0 (at 3) 0
 
-pub binds-right :
+pub binds_right :
     Worked
     ((bind_of (0 ∷ 0 ∷ []) run 0 (at 0), (ok tt, 1 ∷ 0 ∷ []))
     ∷ (bind_of (0 ∷ 0 ∷ []) run 1 (at 5), (ok tt, 0 ∷ 6 ∷ []))  -- the end of the run
@@ -41,9 +41,9 @@ pub binds-right :
     ∷ (bind_of bound run 2 (place_at 0x1002 6), (no 15, bound))  -- 15 before all
     ∷ [])
 unfolding aligned names_label
-binds-right = refl
+binds_right = refl
 
-pub uses-right :
+pub uses_right :
     Worked
     ((use_of bound run (free ∷ free ∷ []) 0 (at 0) forth, (ok 1, forth ∷ free ∷ []))
     ∷ (use_of bound run (forth ∷ free ∷ []) 1 (at 3) back, (ok 2, forth ∷ back ∷ []))
@@ -59,9 +59,9 @@ pub uses-right :
     ∷ (use_of bound run (free ∷ []) 0 (at 5) (use_record 2 (at 5) 6), (no 7, free ∷ []))  -- 7 before 12
     ∷ [])
 unfolding aligned names_label room_for use_refusal is_of_form
-uses-right = refl
+uses_right = refl
 
-pub finished-right :
+pub finished_right :
     Worked
     ((finish_of (at 0) bound run (forth ∷ back ∷ []) 2, (ok 0, 0xB4000081 ∷ 0x8B010000 ∷ 0xD1000421 ∷ 0x17FFFFFD ∷ 0xD65F03C0 ∷ []))
     ∷ (finish_of (at 0) bound run (back ∷ forth ∷ []) 2, (ok 0, 0xB4000081 ∷ 0x8B010000 ∷ 0xD1000421 ∷ 0x17FFFFFD ∷ 0xD65F03C0 ∷ []))  -- another order
@@ -74,4 +74,4 @@ pub finished-right :
     ∷ (finish_of (place_at 0x1FFC 0) (0 ∷ 2 ∷ []) (0x90000003 ∷ 0 ∷ []) (use_record 1 (at 0) 4 ∷ []) 1, (ok 0, 0xB0000003 ∷ 0 ∷ []))  -- ADRP to the next page
     ∷ [])
 unfolding aligned names_label room_for target made_from word_number is_of_form place_said
-finished-right = refl
+finished_right = refl

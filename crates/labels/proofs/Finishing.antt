@@ -268,10 +268,10 @@ module _ (at : Place) (ls ws : List ℕ) (us : List Use) (n : ℕ) where
       finished_at = rw (get_or-take n us i none m) at (finished.1.each i inner)
 
       -- by Arm's reading the word arrives at its label, at format 4 at the label's page
-      pub finish-arrives :
+      pub finish_arrives :
           (page_of item.format word_address + offset item.format (get_or ws' item.at 0)) % 2 ^ 64 ≡ page_of item.format label_address
       unfolding made_from
-      finish-arrives =
+      finish_arrives =
           let w = address_fits (place_at (base_of at) item.at) in
           let l = address_fits (place_at (base_of at) (target ls item)) in
           arrives item.format (get_or ws item.at 0) label_address word_address (get_or ws' item.at 0) l w finished_at

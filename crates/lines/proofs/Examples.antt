@@ -5,13 +5,13 @@ use Rattle.lines.specs.Item.{words, numbers, no, bad_mark, cut_at}
 use Rattle.lines.specs.Text.{decimal, texts_of}
 
 -- `ok 92800003`, `ok 0 60 0`, `no 2`
-pub three-lines :
+pub three_lines_lem :
     texts_of (words (0x92800003 ∷ []) ∷ numbers (0 ∷ 60 ∷ 0 ∷ []) ∷ no 2 ∷ [])
     ≡ (111 ∷ 107 ∷ 32 ∷ 57 ∷ 50 ∷ 56 ∷ 48 ∷ 48 ∷ 48 ∷ 48 ∷ 51 ∷ 10 ∷ [])
     ++ (111 ∷ 107 ∷ 32 ∷ 48 ∷ 32 ∷ 54 ∷ 48 ∷ 32 ∷ 48 ∷ 10 ∷ [])
     ++ (110 ∷ 111 ∷ 32 ∷ 50 ∷ 10 ∷ [])
 unfolding decimal
-three-lines = refl
+three_lines_lem = refl
 
 -- `bad mark at 12`, `cut at 18446744073709551615`
 pub two_ends :

@@ -42,7 +42,7 @@ bytes_of (suc n) v = v % 256 ∷ bytes_of n (v / 256)
 abbrev asks : (kind register value : ℕ) → List ℕ
 asks kind register value = 0x46 ∷ 0x53 ∷ kind ∷ register ∷ bytes_of 8 value
 
-pub every-kind :
+pub every_kind :
     lines_of 0
     (asks 1 0 0x12345678
     ++ asks 1 30 0x5555666677778888
@@ -70,7 +70,7 @@ pub every-kind :
     ∷ cut_at 132
     ∷ []
 unfolding marked value_of asked_by line_of lines_of encode_of mov_said words_of_move long short count others
-every-kind = refl
+every_kind = refl
 
 -- the first byte of the mark, and the second; a bad mark is the end
 pub bad_first : lines_of 0 (0x47 ∷ 0x53 ∷ 1 ∷ 0 ∷ bytes_of 8 0 ++ asks 1 0 0) ≡ bad_mark 0 ∷ []

@@ -15,11 +15,11 @@ Seven a = a ≡ no 7
 
 -- "only unknown numbers get 7": with known ones there is an answer, FF among them
 module _ (table mask accept kind element : ℕ) where
-  pub size-op-known :
+  pub size_op_known :
       table ≤ 1 → kind ≤ 7 → element ≤ 7
       → size_op_of table mask accept kind element ≡ ok (accepted_of mask accept (entry_of table kind element))
   unfolding size_op_of
-  size-op-known t k e = simp (le-ltb 1 table t, le-ltb 7 kind k, le-ltb 7 element e)
+  size_op_known t k e = simp (le-ltb 1 table t, le-ltb 7 kind k, le-ltb 7 element e)
 
   pub size_op_unknown : (1 < table) ⊎ (7 < kind) ⊎ (7 < element) → size_op_of table mask accept kind element ≡ no 7
   unfolding size_op_of

@@ -7,7 +7,7 @@ use Rattle.size_ops.specs.SizeOp.{entry_of, accepted_of, size_op_of}
 
 -- with every bit accepted and kept, and with some
 
-pub size-ops :
+pub size_ops_lem :
     Worked
     ((size_op_of 0 15 0xFFFF 6 0, ok 0)
     ∷ (size_op_of 0 15 0xFFFF 7 1, ok 1)
@@ -25,4 +25,4 @@ pub size-ops :
     ∷ (size_op_of 1 15 0xFFFF 7 8, no 7)
     ∷ [])
 unfolding size_op_of accepted_of entry_of
-size-ops = refl
+size_ops_lem = refl

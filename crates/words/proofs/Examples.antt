@@ -3,7 +3,7 @@ use Rattle.std.proofs.Common.{◌-◌, ◌^◌, [], ◌∷◌, refl}
 use Rattle.arm.proofs.Worked.{Worked}
 use Rattle.words.specs.Place.{place_at, on, address_of}
 
-pub addresses-right :
+pub addresses_right :
     Worked
     ((address_of (place_at 0 0), 0)
     ∷ (address_of (place_at 0 3), 12)
@@ -16,4 +16,4 @@ pub addresses-right :
     ∷ (address_of (place_at 2 1), 6)  -- any base has one
     ∷ (address_of (on (place_at 0x1000 3) 2), 0x1014)
     ∷ [])
-addresses-right = refl
+addresses_right = refl

@@ -92,7 +92,7 @@ module _ (n i a b c d : ℕ) (l : List ℕ) (some : 0 < n) where
   pub word_stores : set (set (set (set l (near 3) d) (near 2) c) (near 1) b) (near 0) a ≡ sets l i (take n (a ∷ b ∷ c ∷ d ∷ []))
   word_stores = simp (mul-one, add-zero, flat_words) at (stores 1 itself (λ w. refl) i n a b c d l some)
 
-  pub byte-stores :
+  pub byte_stores :
       sets (sets (sets (sets l (near 3 * 4) (bytes_of d)) (near 2 * 4) (bytes_of c)) (near 1 * 4) (bytes_of b)) (near 0 * 4) (bytes_of a)
       ≡ sets l (i * 4) (all_bytes (take n (a ∷ b ∷ c ∷ d ∷ [])))
-  byte-stores = simp (add-zero, flat_bytes) at (stores 4 bytes_of (λ w. refl) i n a b c d l some)
+  byte_stores = simp (add-zero, flat_bytes) at (stores 4 bytes_of (λ w. refl) i n a b c d l some)

@@ -2,7 +2,7 @@
 use mathlib.Core.Path.{◌≡◌, refl}
 use Prim.Native.Nat.{◌<◌}
 use native.Mathlib.Omega.{arith}
-use Rattle.writers.proofs.Stores.{byte-stores}
+use Rattle.writers.proofs.Stores.{byte_stores}
 use borrow.Author.Rules.{rules}
 use Rattle.writers.proofs.store_all_bytes.Statement.{statement}
 use Rattle.writers.proofs.store_all_bytes.Tie as tie
@@ -23,7 +23,7 @@ returns-2 c =
       c.before.before.before.before.before.before.before.before.before.before.store-bytes2.ensures,
       c.before.before.before.before.before.before.before.before.before.before.before.before.before.before.store_Bytes.ensures,
       c0.before.requires.0,
-    ) (byte-stores a.f.count a.i a.f.a a.f.b a.f.c a.f.d a.bytes.now some)
+    ) (byte_stores a.f.count a.i a.f.a a.f.b a.f.c a.f.d a.bytes.now some)
 
 pub store_all_bytes_spec : {M : Type 1} → statement M
 store_all_bytes_spec = tie.close (tie.spec returns (search rules) (search rules) (search rules) (search rules) (search rules) (search rules) returns-2)
