@@ -105,7 +105,8 @@ fn put_parts(out: &mut [u8], at: usize, hex: bool, f: Words) -> usize
     put_part(out, r, hex, f.count > 3, f.d)
 }
 
-fn put_text(out: &mut [u8], at: usize, text: &[u8]) -> usize
+// A text, where there is room for it.
+fn put_any(out: &mut [u8], at: usize, text: &[u8]) -> usize
     requires { at + length text.now ≤ length out.old }
     ensures { Put (length text.now) out.old at text.now result out.new }
 {
@@ -115,6 +116,13 @@ fn put_text(out: &mut [u8], at: usize, text: &[u8]) -> usize
         k += 1;
     }
     at + k
+}
+
+fn put_text(out: &mut [u8], at: usize, text: &[u8]) -> usize
+    requires { (at + 12 ≤ length out.old) × (length text.now ≤ 12) }
+    ensures { Put 12 out.old at text.now result out.new }
+{
+    put_any(out, at, text)
 }
 
 // `ok`, a list and the line's end.
@@ -181,7 +189,7 @@ pub fn text(out: &mut [u8], at: usize, t: &[u8]) -> usize
     ensures { (result, out.new) ≡ part_at out.old at (text t.now) }
 {
     if has_room(out.len(), at, t.len()) {
-        return put_text(out, at, t);
+        return put_any(out, at, t);
     }
     at
 }
