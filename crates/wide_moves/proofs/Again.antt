@@ -1,15 +1,14 @@
 -- The word of a wide move's fields, by cases; and every wide move, written again from its own fields, is the same word. Assumes nothing.
 use mathlib.Core.Path.{◌≡◌, refl, sym, ap, ◌∙◌}
-use mathlib.Core.Bool.{Bool, true, false, cond, ◌||◌}
+use mathlib.Core.Bool.{Bool, true, false, ◌||◌}
 use mathlib.Core.List.{[], ◌∷◌}
 use Prim.Native.Nat.{ℕ, ◌+◌, ◌*◌, ◌/◌, ◌%◌, ◌^◌, ◌≤◌, ◌<◌}
 use native.Mathlib.Omega.{arith}
-use borrow.Author.Tests.{eq-eqb, ne_eqb, lt-ltb, le-ltb, le-leb, lt-leb}
-use lib.Dec.{eqb, leb, ltb}
+use borrow.Author.Tests.{ne_eqb, lt-ltb, le-ltb, le-leb, lt-leb}
+use lib.Dec.{eqb, leb}
 use lib.Pow.{shr-shr, split}
 use Rattle.arm.specs.Bits.{bits}
 use Rattle.words.specs.Said.{ok, no}
-use Rattle.words.proofs.Answers.{Short}
 use Rattle.wide_moves.specs.declared.WideMove.{WideMove}
 use Rattle.wide_moves.specs.Wide.{composed, wide_said}
 use Rattle.wide_moves.proofs.Wides.{Passes, fields_of}
