@@ -11,8 +11,10 @@ import collections
 import glob
 import os
 import re
+import subprocess
 
-KIT = os.environ.get("KIT", "/opt/rattle/rattle")
+# the kit's library: beside the page that `rt doc` names
+KIT = os.path.join(os.path.dirname(subprocess.run(["rt", "doc"], capture_output=True, text=True, check=True).stdout.strip()), "rattle")
 TOKEN = re.compile(r"[^\s(){}\[\]:;.,«»\"`]+")
 MADE = re.compile(r"^(invariant|decreases|ghost)-")
 
