@@ -56,9 +56,9 @@ encoded_one w v (no k) (ok g) a b = not_refused b.0 (λ none. none _ _ _ b.1) a
 encoded_one w v (no j) (no k) a b = ap no (one_number a b)
 
 -- what is made of some answer to a value is one thing
-pub one_from : {w v : ℕ} {A : Type 0} {y z : A} {f : Said LogicalImm → A}
+pub one_from : {w : ℕ} (v : ℕ) {A : Type 0} {y z : A} {f : Said LogicalImm → A}
     → ((a : Said LogicalImm) × Encoded w v a × (y ≡ f a)) → ((a : Said LogicalImm) × Encoded w v a × (z ≡ f a)) → y ≡ z
-one_from {w} {v} {f = f} p q = p.2 ∙ ap f (encoded_one w v p.0 q.0 p.1 q.1) ∙ sym q.2
+one_from {w} v {f = f} p q = p.2 ∙ ap f (encoded_one w v p.0 q.0 p.1 q.1) ∙ sym q.2
 
 -- the length is 64 at most
 pub length_low : {w n s r e : ℕ} → IsWidth w → Legal w n s r → e ≡ esize n s → e ≤ 64
