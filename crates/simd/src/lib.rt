@@ -22,6 +22,7 @@ pub enum LmhAnswer {
 }
 
 // Refused: a size other than 1 and 2, then an index above the size's limit.
+#[tactic(auto, unfolding(crate::specs::Lmh::lmh_of))]
 pub fn encode_lmh(size_field: u32, element_index: u32) -> LmhAnswer
     ensures { lmh_said result ≡ lmh_of size_field element_index }
 {

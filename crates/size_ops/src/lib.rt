@@ -53,6 +53,7 @@ fn size_op_entry(table: u32, kind: u32, element: u32) -> u32
 }
 
 // The size op of a kind and an element; FF where the map does not accept it.
+#[tactic(auto, unfolding(crate::specs::SizeOp::size_op_of, crate::specs::SizeOp::accepted_of))]
 pub fn element_type_to_size_op(map: SizeOpMap, kind: u32, element: u32) -> SizeOpAnswer
     ensures { size_op_said result ≡ size_op_of map.table_id map.size_op_mask map.accept_mask kind element }
 {
