@@ -64,6 +64,7 @@ fn fp_row(row: u32) -> FpRow
 }
 
 // The row's word for the size, and the opcode word. The base is tested without bit 30.
+#[tactic(auto, unfolding(crate::specs::Pick::word_of))]
 fn row_word(row: u32, size: u32, base: Opc, word: Opc) -> PickAnswer
     requires { (row < 6) × (size < 3) }
     ensures { pick_said result ≡ word_of row size base.0 word.0 }
@@ -80,6 +81,7 @@ fn row_word(row: u32, size: u32, base: Opc, word: Opc) -> PickAnswer
 }
 
 // The register's kind gives the size: Vec16, Vec32, Vec64.
+#[tactic(auto, unfolding(crate::specs::Pick::scalar_of))]
 fn pick_scalar(kind: u32, op: Opc, row: u32) -> PickAnswer
     ensures { pick_said result ≡ scalar_of kind op.0 row }
 {
@@ -94,6 +96,7 @@ fn pick_scalar(kind: u32, op: Opc, row: u32) -> PickAnswer
 }
 
 // The element gives the size, H, S, D, and the register's kind bit 30: Vec64, Vec128.
+#[tactic(auto, unfolding(crate::specs::Pick::vector_of))]
 fn pick_vector(kind: u32, element: u32, op: Opc, row: u32) -> PickAnswer
     ensures { pick_said result ≡ vector_of kind element op.0 row }
 {
@@ -112,6 +115,7 @@ fn pick_vector(kind: u32, element: u32, op: Opc, row: u32) -> PickAnswer
 }
 
 // The word of a scalar or a vector instruction, from the base and the row for it; the other base and row are not looked at.
+#[tactic(auto, unfolding(crate::specs::Pick::pick_of))]
 pub fn pick_fp_opcode(
     kind: u32,
     element: u32,
