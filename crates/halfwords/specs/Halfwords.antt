@@ -20,8 +20,8 @@ count f v = same f (half v 0) + same f (half v 1) + same f (half v 2) + same f (
 pub record Halved (v : ℕ) (r : Halves) : Type 0 where
   pub at_0 : r.0 ≡ half v 0
   pub at_1 : r.1 ≡ half v 1
-  pub at-2 : r.2 ≡ half v 2
-  pub at-3 : r.3 ≡ half v 3
+  pub at_2 : r.2 ≡ half v 2
+  pub at_3 : r.3 ≡ half v 3
 
 pub record Tested (f h r : ℕ) : Type 0 where
   pub is : r ≡ same f h
