@@ -1,6 +1,6 @@
 -- A word whose field is cleared: nothing stands in the field, every other part is as before, and what stood there puts the word together again.
 -- Assumes nothing.
-use Rattle.std.proofs.Common.{◌≡◌, ℕ, ◌+◌, ◌-◌, ◌*◌, ◌/◌, ◌%◌, ◌^◌, ◌<◌, ◌≤◌, sym, refl, ap, ◌∙◌, mod-lt, zero-mul, arith, pow_pos}
+use Rattle.std.proofs.Common.{◌≡◌, ℕ, ◌+◌, ◌-◌, ◌*◌, ◌/◌, ◌^◌, ◌<◌, ◌≤◌, sym, ap, ◌∙◌, mod-lt, zero-mul, arith, pow_pos}
 use native.Mathlib.Nat.{mod-one, zero-div, zero-mod}
 use lib.Arith.{digits_div, digits_mod}
 use lib.ListN.{get_or-eq_default}

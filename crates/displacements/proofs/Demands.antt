@@ -222,11 +222,11 @@ module _ (ws : List ℕ) (at : Place) (n b : ℕ) (d : ℤ) where
 
     -- a word needs room for itself at the position
     pub emit_8 : (w : ℕ) → disp_said n b d ≡ ok (w ∷ []) → (put_of ws at (disp_said n b d) ≡ (no 8, ws)) ↔ (length ws ≤ pos_of at)
-    emit_8 w e = (λ f. go ((put_exactly ws at (disp_said n b d) (no 8, ws)).0 f), λ h. put_answers ws at (disp_said n b d) (full (w ∷ []) a e (omega arith)))
+    emit_8 w e = (λ f. go ws ((put_exactly ws at (disp_said n b d) (no 8, ws)).0 f), λ h. put_answers ws at (disp_said n b d) (full (w ∷ []) a e (omega arith)))
       where
-        go : Puts ws at (disp_said n b d) (no 8, ws) → length ws ≤ pos_of at
-        go (refused k a q) = absurd (not_both (sym e ∙ q))
-        go (full vs a q h) = let same : w ∷ [] ≡ vs = cc in omega (arith, h, ap length same)
+        go : (l : List ℕ) → Puts ws at (disp_said n b d) (no 8, l) → length ws ≤ pos_of at
+        go l (refused k a q) = absurd (not_both (sym e ∙ q))
+        go l (full vs a q h) = let same : w ∷ [] ≡ vs = cc in omega (arith, h, ap length same)
 
 -- after a success the word stands at the position, the new place is one word on, and every other word is as before
 pub record Emitted (ws : List ℕ) (at : Place) (x : Said (List ℕ)) (p : Place) (ws' : List ℕ) : Type 0 where
