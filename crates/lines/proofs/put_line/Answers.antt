@@ -12,7 +12,7 @@ pub returns-in-Numbers : goal.returns-in-Numbers
 returns-in-Numbers c = rw c.in-Numbers.is (line-is _ c.requires c.put_ok-in-Numbers.ensures)
 
 pub returns-in-No : goal.returns-in-No
-returns-in-No c = rw (c.in-No.is, ← c.number.ensures) (line-is _ c.requires c.put_about.ensures)
+returns-in-No c = rw c.in-No.is (line-is _ c.requires (rw c.number.ensures at c.put_about.ensures))
 
 pub returns-in-BadMark : goal.returns-in-BadMark
 returns-in-BadMark c = rw c.in-BadMark.is (line-is _ c.requires c.put_about-in-BadMark.ensures)
