@@ -1,6 +1,8 @@
 // Requests at which the Rust answers otherwise or not at all: stdout is what document 01 says.
 #![tactic(auto)]
 
-fn main() {
-    requests::answer_all();
+use std::io;
+
+fn main(rt: HostRuntime) -> io::Result<()> {
+    requests::answer_all(&mut rt.stdin(), &mut rt.stdout())
 }

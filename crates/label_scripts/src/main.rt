@@ -3,10 +3,12 @@
 // and the format.
 #![tactic(auto)]
 
-ghost use Rattle.std.specs.Prelude.{◌<◌, ◌≤◌};
-ghost use Rattle.io.specs.Counts.{IsPrefixLen};
+ghost use Rattle.std.specs.Prelude.{◌≡◌, ◌<◌, ◌≤◌, length, take};
+ghost use Rattle.std.specs.Io.{ReadsAtMost};
 
 use labels::{Binding, Counted};
+use std::io;
+use std::io::Read;
 use words::{Address, Place, Refusal, WordPos};
 
 #[derive(Clone, Copy)]
@@ -66,14 +68,16 @@ fn low(x: u64) -> u32 {
 
 // So many numbers of a run, or all of them.
 fn upto(run: &[usize], n: usize) -> usize
-    ensures { IsPrefixLen result run.now }
+    ensures in_bounds { result ≤ length run.now }
+    ensures len { result ≡ length (take result run.now) }
 {
     words::least(n, run.len())
 }
 
 // The same of words.
 fn words_upto(run: &[u32], n: usize) -> usize
-    ensures { IsPrefixLen result run.now }
+    ensures in_bounds { result ≤ length run.now }
+    ensures len { result ≡ length (take result run.now) }
 {
     words::least(n, run.len())
 }
@@ -86,26 +90,24 @@ fn place(c: Call) -> Place {
 }
 
 // A line: a text, which ends in a space, and a number.
-fn say(text: &[u8], n: u64) {
-    io::write_all(1, text);
-    io::print_decimal(1, n);
-    io::write_all(1, b"\n");
+fn say(rt: &impl Print, text: &str, n: u64) -> io::Result<()> {
+    println!(rt; "{text}{n}")
 }
 
-fn say_refused(r: Refusal) {
-    say(b"refused ", words::number(r) as u64);
+fn say_refused(rt: &impl Print, r: Refusal) -> io::Result<()> {
+    say(rt, "refused ", words::number(r) as u64)
 }
 
 // The count after a call, which is said.
-fn counted(a: Counted, n: usize) -> usize {
+fn counted(rt: &impl Print, a: Counted, n: usize) -> io::Result<usize> {
     match a {
         Counted::Count(k) => {
-            say(b"ok ", k as u64);
-            k
+            say(rt, "ok ", k as u64)?;
+            Ok(k)
         }
         Counted::Kept(r) => {
-            say_refused(r);
-            n
+            say_refused(rt, r)?;
+            Ok(n)
         }
     }
 }
@@ -142,25 +144,26 @@ fn word_sum(run: &[u32]) -> u64 {
 
 // All is 0, in so many entries, uses and words as the call says, or as there are.
 fn anew(
+    rt: &impl Print,
     c: Call,
     labels: &mut [usize; 300],
     marks: &mut [u32; 1100],
     ats: &mut [usize; 1100],
     formats: &mut [u32; 1100],
     words: &mut [u32; 2048],
-) -> Book {
+) -> io::Result<Book> {
     *labels = [0; 300];
     *marks = [0; 1100];
     *ats = [0; 1100];
     *formats = [0; 1100];
     *words = [0; 2048];
-    say(b"ok ", 0);
-    Book {
+    say(rt, "ok ", 0)?;
+    Ok(Book {
         labels: words::least(c.label as usize, 300),
         uses: words::least(c.position as usize, 1100),
         words: words::least(c.format as usize, 2048),
         count: 0,
-    }
+    })
 }
 
 // A word into the run, if its place is inside.
@@ -172,17 +175,18 @@ fn put(c: Call, b: Book, words: &mut [u32]) {
     words[i] = low(c.label);
 }
 
-fn bind(c: Call, b: Book, labels: &mut [usize], words: &[u32]) {
+fn bind(rt: &impl Print, c: Call, b: Book, labels: &mut [usize], words: &[u32]) -> io::Result<()> {
     let l = upto(labels, b.labels);
     let w = words_upto(words, b.words);
     match labels::bind(&mut labels[..l], &words[..w], low(c.label), place(c)) {
-        Binding::Bound => say(b"ok ", 0),
-        Binding::NotBound(r) => say_refused(r),
+        Binding::Bound => say(rt, "ok ", 0),
+        Binding::NotBound(r) => say_refused(rt, r),
     }
 }
 
 // The count after a use.
 fn add(
+    rt: &impl Print,
     c: Call,
     b: Book,
     labels: &[usize],
@@ -190,7 +194,7 @@ fn add(
     ats: &mut [usize],
     formats: &mut [u32],
     words: &[u32],
-) -> usize {
+) -> io::Result<usize> {
     let l = upto(labels, b.labels);
     let m = words_upto(marks, b.uses);
     let k = upto(ats, b.uses);
@@ -207,32 +211,34 @@ fn add(
         place(c),
         low(c.format),
     );
-    counted(a, b.count)
+    counted(rt, a, b.count)
 }
 
 // The sums of the words, of the table and of the uses that wait.
 fn say_sums(
+    rt: &impl Print,
     b: Book,
     labels: &[usize],
     marks: &[u32],
     ats: &[usize],
     formats: &[u32],
     words: &[u32],
-) {
+) -> io::Result<()> {
     let l = upto(labels, b.labels);
     let m = words_upto(marks, b.count);
     let k = upto(ats, b.count);
     let f = words_upto(formats, b.count);
     let w = words_upto(words, b.words);
-    say(b"sum ", word_sum(&words[..w]));
-    say(b"sum ", sum(&labels[..l]));
-    say(b"sum ", word_sum(&marks[..m]));
-    say(b"sum ", sum(&ats[..k]));
-    say(b"sum ", word_sum(&formats[..f]));
+    say(rt, "sum ", word_sum(&words[..w]))?;
+    say(rt, "sum ", sum(&labels[..l]))?;
+    say(rt, "sum ", word_sum(&marks[..m]))?;
+    say(rt, "sum ", sum(&ats[..k]))?;
+    say(rt, "sum ", word_sum(&formats[..f]))
 }
 
 // The count after a finish, of whose uses the sums are said.
 fn finish(
+    rt: &impl Print,
     c: Call,
     b: Book,
     labels: &[usize],
@@ -240,7 +246,7 @@ fn finish(
     ats: &[usize],
     formats: &[u32],
     words: &mut [u32],
-) -> usize {
+) -> io::Result<usize> {
     let l = upto(labels, b.labels);
     let m = words_upto(marks, b.uses);
     let k = upto(ats, b.uses);
@@ -255,13 +261,14 @@ fn finish(
         &mut words[..w],
         place(c),
     );
-    let n = counted(a, b.count);
-    say_sums(b, labels, marks, ats, formats, words);
-    n
+    let n = counted(rt, a, b.count)?;
+    say_sums(rt, b, labels, marks, ats, formats, words)?;
+    Ok(n)
 }
 
 // A call is answered; the book after it.
 fn answer(
+    rt: &impl Print,
     c: Call,
     b: Book,
     labels: &mut [usize; 300],
@@ -269,38 +276,52 @@ fn answer(
     ats: &mut [usize; 1100],
     formats: &mut [u32; 1100],
     words: &mut [u32; 2048],
-) -> Book {
+) -> io::Result<Book> {
     let mut count = b.count;
     let kind = c.kind;
     match kind {
         0 => {
-            return anew(c, labels, marks, ats, formats, words);
+            return anew(rt, c, labels, marks, ats, formats, words);
         }
         1 => {
             put(c, b, words);
-            say(b"ok ", 0);
+            say(rt, "ok ", 0)?;
         }
-        2 => bind(c, b, labels, words),
+        2 => bind(rt, c, b, labels, words)?,
         3 => {
-            count = add(c, b, labels, marks, ats, formats, words);
+            count = add(rt, c, b, labels, marks, ats, formats, words)?;
         }
         4 => {
-            count = finish(c, b, labels, marks, ats, formats, words);
+            count = finish(rt, c, b, labels, marks, ats, formats, words)?;
         }
-        _ => {
-            io::write_all(1, b"bad\n");
-        }
+        _ => println!(rt; "bad")?,
     }
-    Book {
+    Ok(Book {
         labels: b.labels,
         uses: b.uses,
         words: b.words,
         count,
-    }
+    })
 }
 
-// Every whole call of standard input is answered on standard output.
-fn main() {
+// Reads until the run is full or the input ends, and says how many bytes stand at its start.
+fn read_full<R: Read>(input: &mut R, buf: &mut [u8]) -> io::Result<usize>
+    ensures { ReadsAtMost result buf.new }
+{
+    let mut done = 0;
+    while done < buf.len() {
+        let n = input.read(&mut buf[done..])?;
+        if n == 0 {
+            break;
+        }
+        done += n;
+    }
+    Ok(done)
+}
+
+// Every whole call of standard input is answered on standard output. A read or a write that fails is the end.
+fn main(rt: HostRuntime) -> io::Result<()> {
+    let mut input = rt.stdin();
     let mut bytes = [0u8; 40];
     let mut labels = [0usize; 300];
     let mut marks = [0u32; 1100];
@@ -313,12 +334,12 @@ fn main() {
         words: 0,
         count: 0,
     };
-    let mut turns = u64::MAX;
-    while turns > 0 {
-        if io::read_full(0, &mut bytes) < 40 {
-            return;
+    for _ in 0..u64::MAX {
+        if read_full(&mut input, &mut bytes)? < 40 {
+            break;
         }
         book = answer(
+            &rt,
             read(&bytes),
             book,
             &mut labels,
@@ -326,7 +347,7 @@ fn main() {
             &mut ats,
             &mut formats,
             &mut words,
-        );
-        turns -= 1;
+        )?;
     }
+    Ok(())
 }

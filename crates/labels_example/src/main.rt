@@ -6,6 +6,7 @@
 ghost use Rattle.std.specs.Prelude.{◌<◌};
 
 use labels::{Binding, Counted};
+use std::io;
 use words::{Address, Place, Refusal, WordPos};
 
 // The words with no distance in them yet, but for one.
@@ -95,39 +96,44 @@ fn call_at(i: usize) -> Call
 }
 
 // A line: a text, which ends in a space, and a number.
-fn say(text: &[u8], n: u64) {
-    io::write_all(1, text);
-    io::print_decimal(1, n);
-    io::write_all(1, b"\n");
+fn say(rt: &impl Print, text: &str, n: u64) -> io::Result<()> {
+    println!(rt; "{text}{n}")
 }
 
-fn say_refused(r: Refusal) {
-    say(b"refused ", words::number(r) as u64);
+fn say_refused(rt: &impl Print, r: Refusal) -> io::Result<()> {
+    say(rt, "refused ", words::number(r) as u64)
 }
 
 // The count after a call, which is said.
-fn counted(a: Counted, n: usize) -> usize {
+fn counted(rt: &impl Print, a: Counted, n: usize) -> io::Result<usize> {
     match a {
         Counted::Count(k) => {
-            say(b"ok ", k as u64);
-            k
+            say(rt, "ok ", k as u64)?;
+            Ok(k)
         }
         Counted::Kept(r) => {
-            say_refused(r);
-            n
+            say_refused(rt, r)?;
+            Ok(n)
         }
     }
 }
 
-fn bind(c: Call, labels: &mut [usize], words: &[u32], at: Place) {
+fn bind(
+    rt: &impl Print,
+    c: Call,
+    labels: &mut [usize],
+    words: &[u32],
+    at: Place,
+) -> io::Result<()> {
     match labels::bind(labels, words, c.2, at) {
-        Binding::Bound => say(b"ok ", 0),
-        Binding::NotBound(r) => say_refused(r),
+        Binding::Bound => say(rt, "ok ", 0),
+        Binding::NotBound(r) => say_refused(rt, r),
     }
 }
 
 // A call is made, with n uses waiting; the count after it.
 fn answer(
+    rt: &impl Print,
     c: Call,
     n: usize,
     labels: &mut [usize],
@@ -135,41 +141,41 @@ fn answer(
     ats: &mut [usize],
     formats: &mut [u32],
     words: &mut [u32],
-) -> usize {
+) -> io::Result<usize> {
     let at = Place {
         base: Address(c.1),
         position: WordPos(c.3),
     };
     let kind = c.0;
     if kind == BIND {
-        bind(c, labels, words, at);
-        return n;
+        bind(rt, c, labels, words, at)?;
+        return Ok(n);
     }
     if kind == USE {
         let a = label_runs::use_flat(marks, ats, formats, n, labels, words, c.2, at, c.4);
-        return counted(a, n);
+        return counted(rt, a, n);
     }
     counted(
+        rt,
         label_runs::finish_flat(marks, ats, formats, n, labels, words, at),
         n,
     )
 }
 
 // A word in hex, as a line.
-fn say_word(w: u32) {
-    io::print_hex(1, w as u64, 8);
-    io::write_all(1, b"\n");
+fn say_word(rt: &impl Print, w: u32) -> io::Result<()> {
+    println!(rt; "{w:08x}")
 }
 
-fn say_words(words: &[u32]) {
-    let mut i = 0;
-    while i < words.len() {
-        say_word(words[i]);
-        i += 1;
+fn say_words(rt: &impl Print, words: &[u32]) -> io::Result<()> {
+    for w in words {
+        say_word(rt, *w)?;
     }
+    Ok(())
 }
 
-fn main() {
+// A write that fails is the end.
+fn main(rt: HostRuntime) -> io::Result<()> {
     let mut labels = [0usize; 5];
     let mut marks = [0u32; 6];
     let mut ats = [0usize; 6];
@@ -179,6 +185,7 @@ fn main() {
     let mut i = 0;
     while i < 29 {
         n = answer(
+            &rt,
             call_at(i),
             n,
             &mut labels,
@@ -186,8 +193,8 @@ fn main() {
             &mut ats,
             &mut formats,
             &mut words,
-        );
+        )?;
         i += 1;
     }
-    say_words(&words);
+    say_words(&rt, &words)
 }

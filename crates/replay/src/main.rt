@@ -1,6 +1,8 @@
 // The requests of stdin, which the oracle answered: stdout is what it said.
 #![tactic(auto)]
 
-fn main() {
-    requests::answer_all();
+use std::io;
+
+fn main(rt: HostRuntime) -> io::Result<()> {
+    requests::answer_all(&mut rt.stdin(), &mut rt.stdout())
 }

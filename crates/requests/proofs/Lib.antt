@@ -1,1 +1,2 @@
--- Nothing is shared.
+-- What steps leave of known bytes.
+mod Known

@@ -1,1 +1,2 @@
--- Nothing is cited.
+-- What the contract of `answer_all` cites.
+pub mod Streams

@@ -6,6 +6,11 @@ mod answers;
 mod runs;
 
 ghost use Rattle.std.specs.Prelude.{◌<◌, ◌≤◌};
+ghost use Rattle.std.specs.Io.{ReadsAtMost};
+ghost use Rattle.requests.specs.Streams.{OnlyAdds, OnlyTakes};
+
+use std::io;
+use std::io::{ErrorKind, Read, Write};
 
 // The entry's number and its arguments.
 #[derive(Clone, Copy)]
@@ -62,30 +67,67 @@ pub(crate) fn low(x: u64) -> u32 {
     (x % 4294967296) as u32
 }
 
+// Reads until the run is full or the input ends, and says how many bytes stand at its start.
+fn read_full<R: Read>(input: &mut R, buf: &mut [u8]) -> io::Result<usize>
+    ensures in_bounds { ReadsAtMost result buf.new }
+    ensures front { OnlyTakes (R.remaining input.old) (R.remaining input.new) }
+{
+    let mut done = 0;
+    while done < buf.len() {
+        let n = input.read(&mut buf[done..])?;
+        if n == 0 {
+            break;
+        }
+        done += n;
+    }
+    Ok(done)
+}
+
+// Writes all of a run; or a write fails, or takes nothing, when some of it may have been written.
+fn write_all<W: Write>(output: &mut W, buf: &[u8]) -> io::Result<()>
+    ensures { OnlyAdds (W.contents output.old) (W.contents output.new) }
+{
+    let mut done = 0;
+    while done < buf.len() {
+        let n = output.write(&buf[done..])?;
+        if n == 0 {
+            return Err(io::Error::from(ErrorKind::WriteZero));
+        }
+        done += n;
+    }
+    Ok(())
+}
+
 // The lines of one request.
-fn respond(bytes: &[u8; 72], out: &mut [u8]) {
+fn respond<W: Write>(bytes: &[u8; 72], out: &mut [u8], output: &mut W) -> io::Result<()>
+    ensures { OnlyAdds (W.contents output.old) (W.contents output.new) }
+{
     let n = runs::lines_of(read(bytes), out);
     if n <= out.len() {
-        io::write_all(1, &out[..n]);
+        write_all(output, &out[..n])?;
     }
+    Ok(())
 }
 
-fn respond_in(bytes: &[u8; 72], out: &mut [u8; 512]) {
-    respond(bytes, out);
+fn respond_in<W: Write>(bytes: &[u8; 72], out: &mut [u8; 512], output: &mut W) -> io::Result<()>
+    ensures { OnlyAdds (W.contents output.old) (W.contents output.new) }
+{
+    respond(bytes, out, output)
 }
 
-// Answers every whole request of standard input on standard output. It is lent nothing and answers nothing; what it prints is compared.
-pub fn answer_all()
-    ensures { Unit }
+// Answers every whole request of the input on the output, each before the next one is read; what it prints is compared. A read or a write that fails
+// is the end, and is answered. Fail or not, bytes of the input are only taken from its front, and bytes of the output only added behind it.
+pub fn answer_all<R: Read, W: Write>(input: &mut R, output: &mut W) -> io::Result<()>
+    ensures input { OnlyTakes (R.remaining input.old) (R.remaining input.new) }
+    ensures output { OnlyAdds (W.contents output.old) (W.contents output.new) }
 {
     let mut bytes = [0u8; 72];
     let mut out = [0u8; 512];
-    let mut turns = u64::MAX;
-    while turns > 0 {
-        if io::read_full(0, &mut bytes) < 72 {
-            return;
+    for _ in 0..u64::MAX {
+        if read_full(input, &mut bytes)? < 72 {
+            break;
         }
-        respond_in(&bytes, &mut out);
-        turns -= 1;
+        respond_in(&bytes, &mut out, output)?;
     }
+    Ok(())
 }
