@@ -37,6 +37,7 @@ pub enum Counted {
 }
 
 // Whether there is a label of this number in the table.
+#[tactic(auto, unfolding(crate::specs::Sheet::names_label))]
 pub fn is_label(labels: &[usize], label: u32) -> bool
     ensures { result ≡ names_label labels.now label }
 {
@@ -48,6 +49,7 @@ pub fn is_label(labels: &[usize], label: u32) -> bool
 }
 
 // Whether the base of a place is a multiple of 4.
+#[tactic(auto, unfolding(crate::specs::Sheet::aligned))]
 pub fn is_aligned(at: Place) -> bool
     ensures { result ≡ aligned at }
 {
@@ -55,6 +57,7 @@ pub fn is_aligned(at: Place) -> bool
 }
 
 // A label is bound to a place: 15, 12, 13, 8.
+#[tactic(auto, using(crate::proofs::Decides::label_in))]
 pub fn bind(labels: &mut [usize], words: &[u32], label: u32, at: Place) -> Binding
     ensures { (binding_said result, labels.new) ≡ bind_of labels.old words.now label at }
 {
@@ -77,6 +80,7 @@ pub fn bind(labels: &mut [usize], words: &[u32], label: u32, at: Place) -> Bindi
 }
 
 // Whether a sheet with room for `there` uses, of which n wait, takes one more.
+#[tactic(auto, unfolding(crate::specs::Sheet::room_for))]
 pub fn has_room(n: usize, there: usize) -> bool
     ensures { result ≡ room_for there (n + 1) }
 {
@@ -87,6 +91,7 @@ pub fn has_room(n: usize, there: usize) -> bool
 }
 
 // Why n uses of a sheet with room for `there` are not looked at, 0 where they are: 15, 14.
+#[tactic(auto, unfolding(crate::specs::Sheet::room_for))]
 pub fn may_finish(at: Place, n: usize, there: usize) -> u32
     ensures { result ≡ first (finish_tests at there n) 0 }
 {
