@@ -3,7 +3,7 @@ use mathlib.Core.Path.{refl}
 use mathlib.Core.List.{List, [], ◌∷◌}
 use Prim.Native.Nat.{ℕ}
 use Rattle.arm.proofs.Worked.{Worked}
-use Rattle.words.specs.Said.{Said, ok, no}
+use Rattle.words.specs.Said.{ok, no}
 use Rattle.words.specs.Place.{place_at}
 use Rattle.words.specs.declared.Place.{Place}
 use Rattle.forms.specs.Form.{is_of_form}
