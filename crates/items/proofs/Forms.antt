@@ -1,15 +1,14 @@
 -- The format of a word, by its form; and what a word is that has one, or none. Assumes nothing.
-use mathlib.Core.Path.{◌≡◌, refl, sym, ap, ◌∙◌}
+use mathlib.Core.Path.{◌≡◌, refl, sym, ap}
 use mathlib.Core.Bool.{Bool, true, false, cond, ◌&&◌}
 use Prim.Native.Nat.{ℕ, ◌<◌}
 use native.Mathlib.Omega.{arith}
-use borrow.Author.Tests.{ne_eqb, lt-ltb, le-ltb}
+use borrow.Author.Tests.{ne_eqb}
 use lib.Dec.{eqb, ltb}
 use lib.IntN.{ℤ}
 use mir.Syntax.{w64}
 use mir.Val.{to_z}
 use Rattle.arm.specs.Bits.{bits}
-use Rattle.arm.specs.FixedBits.{is_bcond, is_cbz}
 use Rattle.words.specs.Said.{ok, no}
 use Rattle.words.specs.declared.ByteDistance.{ByteDistance}
 use Rattle.words.proofs.Answers.{not_both}

@@ -2,7 +2,7 @@
 use mathlib.Core.Path.{◌≡◌, refl, sym, ap, ◌∙◌}
 use mathlib.Core.Bool.{Bool, true, false, cond}
 use mathlib.Core.Logic.{◌⊎◌, inl, inr}
-use mathlib.Core.Option.{Option, none, some}
+use mathlib.Core.Option.{Option, none}
 use Prim.Native.Nat.{ℕ, zero, suc, ◌+◌, ◌-◌, ◌*◌, ◌%◌, ◌≤◌, ◌<◌}
 use native.Mathlib.Omega.{arith}
 use borrow.Author.Tests.{eq-eqb, ne_eqb, eqb-true, eqb-false, ltb-true, ltb-false}
@@ -16,7 +16,6 @@ use Rattle.arm.proofs.Logical.{defined_exactly}
 use Rattle.words.specs.Said.{ok, no}
 use Rattle.logical.proofs.Laws.{not_refused}
 use Rattle.logical_decoder.specs.Answer.{Decoded}
-use Rattle.items.specs.declared.Item.{Item}
 use Rattle.items.specs.declared.Item.TheVariants as item
 use Rattle.items.specs.declared.LogicalWord.{LogicalWord}
 use Rattle.items.specs.Items.{form_number, displaced_of, operation_of, logical_or, other_of}

@@ -1,8 +1,8 @@
 -- What Arm decodes as a logical immediate is read as that, and a word of a format's form as a displacement. Assumes nothing.
-use mathlib.Core.Path.{◌≡◌, refl, sym, ap, ◌∙◌}
+use mathlib.Core.Path.{◌≡◌, sym, ap, ◌∙◌}
 use mathlib.Core.Logic.{⊎_elim}
 use mathlib.Core.Option.{Option, none, some, none-ne-some}
-use Prim.Native.Nat.{ℕ, ◌≤◌, ◌<◌}
+use Prim.Native.Nat.{ℕ, ◌<◌}
 use native.Mathlib.Omega.{arith}
 use borrow.Author.Tests.{ne_eqb}
 use Rattle.arm.specs.Bits.{bits}
@@ -12,11 +12,9 @@ use Rattle.forms.specs.Form.{Formed}
 use Rattle.wide_moves.specs.Wide.{wide_of}
 use Rattle.wide_moves.specs.declared.WideAnswer.TheVariants.{NoMove}
 use Rattle.wide_moves.proofs.Wides.{Passes, wide_cases}
-use Rattle.items.specs.declared.Item.{Item}
 use Rattle.items.specs.declared.Item.TheVariants as item
 use Rattle.items.specs.Items.{form_number, displacement_of, displaced_of, logical_word_item, logical_or, other_of, item_of}
 use Rattle.items.proofs.Forms.{form_is, form_none}
-use Rattle.items.proofs.Logicals.{IsLogical}
 use Rattle.items.proofs.Cases.{itemed_other, by_item}
 
 wide_not : (w : ℕ) → Passes w → decode_logical w ≡ none
