@@ -1,7 +1,7 @@
 -- The loop over the MOVK words: what is read so far, and what is left. Assumes nothing.
 use mathlib.Core.Path.{◌≡◌, refl, sym, ap, ◌∙◌}
 use mathlib.Core.Bool.{Bool, true, false, cond, ◌&&◌}
-use mathlib.Core.Logic.{◌⊎◌, ⊎_elim}
+use mathlib.Core.Logic.{⊎_elim}
 use mathlib.Core.List.{List, [], ◌∷◌}
 use mathlib.Core.Option.{some}
 use Prim.Native.Nat.{ℕ, zero, suc, ◌+◌, ◌-◌, ◌*◌, ◌%◌, ◌^◌, ◌≤◌, ◌<◌}
@@ -21,7 +21,7 @@ use Rattle.words.specs.declared.Refusal.TheVariants.{Width, Register, NoField, N
 use Rattle.wide_moves.specs.Wide.{wide_of, opc_of}
 use Rattle.wide_moves.specs.declared.WideAnswer.TheVariants.{Move, NoMove}
 use Rattle.wide_moves.specs.declared.WideMove.{WideMove}
-use Rattle.wide_moves.proofs.Wides.{Known, known, Passes, fields_of, read_move, wide_cases, moves_back, ran_word}
+use Rattle.wide_moves.proofs.Wides.{Known, known, Passes, read_move, wide_cases, moves_back, ran_word}
 use Rattle.items.proofs.Cases.{wide_back}
 use Rattle.reader.specs.declared.Constant.{Constant}
 use Rattle.reader.specs.declared.Found.TheVariants.{Joined, No}
