@@ -50,7 +50,7 @@ plain_all a b p q e = sym (plain_back a p) ∙ ap answer_of e ∙ plain_back b q
 
 pub says_one : (k : Asked) (rd v : ℕ) (i j : Item) → Says k rd v i → Says k rd v j → i ≡ j
 says_one move rd v i j p q = one_answer p q
-says_one (fields w) rd v i j p q = one_from p q
+says_one (fields w) rd v i j p q = one_from v p q
 says_one fp64 rd v i j (a, e, p) (b, f, q) = p ∙ ap float_line (one_float 64 v a b e f) ∙ sym q
 says_one other rd v i j p q = one_answer p q
 
