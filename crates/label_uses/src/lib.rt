@@ -21,6 +21,7 @@ fn entry_of(labels: &[usize], label: u32) -> usize
 }
 
 // The position of a label that is bound.
+#[tactic(auto, unfolding(labels::specs::Sheet::target))]
 fn target_of(labels: &[usize], u: Use) -> usize
     ensures { result ≡ target labels.now u }
 {
@@ -41,6 +42,7 @@ fn base_number(format: u32, base: Opc) -> u32
 
 // Why a use is not taken, 0 where it is: 15, 7, 12, 8, 11, 6, 16, 14. `again` says that an earlier one of the n uses that wait names the word; the sheet
 // has room for `there`.
+#[tactic(auto, unfolding(labels::specs::Sheet::use_refusal))]
 pub fn may_use(
     labels: &[usize],
     words: &[u32],
@@ -89,6 +91,7 @@ fn moved(at: Place, position: usize) -> Place
 }
 
 // Module 7's word of a use over its base word.
+#[tactic(auto, unfolding(labels::specs::Sheet::made_from))]
 fn made_word(labels: &[usize], at: Place, u: Use, base: u32) -> TargetWord
     ensures { word_said result ≡ carrying (low_of u.format (address_of (place_at (base_of at) (target labels.now u)))) (packed (made_from at labels.now u base)) }
 {
@@ -113,6 +116,7 @@ fn made_number(w: TargetWord) -> u32
 }
 
 // Why a use has no word, 0 where it has one: 7, 12, 8, 11, 6, 16, 4, 5. `named` says that an earlier use names the word.
+#[tactic(auto, unfolding(labels::specs::Sheet::word_number))]
 pub fn use_number(labels: &[usize], words: &[u32], at: Place, u: Use, named: bool) -> u32
     ensures { result ≡ word_number at labels.now words.now named u }
 {
