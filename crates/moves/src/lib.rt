@@ -64,6 +64,7 @@ fn rest(f: u32, imm: u64, rd: u32) -> Words
 }
 
 // The words with the first one replaced by w; z alone where there are none.
+#[tactic(auto, unfolding(crate::specs::Steps::lead))]
 fn lead(z: Opc, w: Opc, q: Words) -> Words
     ensures { result ≡ lead z.0 w.0 q }
 {
@@ -80,6 +81,7 @@ fn lead(z: Opc, w: Opc, q: Words) -> Words
 }
 
 // What the first word fills the register with: zero or FFFF.
+#[tactic(auto, unfolding(crate::specs::Steps::filler))]
 fn filler(imm: u64) -> u32
     ensures { Filled imm result }
 {
@@ -113,6 +115,7 @@ fn long(imm: u64, rd: u32) -> Words
 }
 
 // The words of a value up to FFFFFFFF.
+#[tactic(auto, unfolding(crate::specs::Moves::short))]
 fn encode_mov_sequence32(imm: u32, rd: u32) -> Words
     requires { rd < 31 }
     ensures { result ≡ words_of (short (imm / 2 ^ 16) (imm % 2 ^ 16) rd) }
@@ -135,6 +138,7 @@ fn encode_mov_sequence32(imm: u32, rd: u32) -> Words
 }
 
 // The words of a move of a value to a register, 1 to 4, or refusal 2.
+#[tactic(auto, unfolding(crate::specs::Moves::mov_said, crate::specs::Moves::words_of_move))]
 pub fn mov_words(imm: u64, rd: u32) -> Worded
     ensures { made result ≡ packed (mov_said imm rd) }
 {
