@@ -30,6 +30,7 @@ fn is_size(size: u32) -> bool
 }
 
 // Always four words at 64 and two at 32, so that another value can be put in their place.
+#[tactic(auto, unfolding(crate::specs::Patchable::patch_words, crate::specs::Patchable::patch64, crate::specs::Patchable::patch32))]
 fn patchable(value: u64, size: u32, rd: u32) -> Words
     requires { rd < 31 }
     ensures { result ≡ words_of (patch_words value size rd) }
@@ -51,6 +52,7 @@ fn patchable(value: u64, size: u32, rd: u32) -> Words
 }
 
 // The words of a patchable move at a register size of 64 or 32, or refusal 1 or 2.
+#[tactic(auto, unfolding(crate::specs::Patchable::patch_said))]
 pub fn patchable_mov_words(value: u64, size: u32, rd: u32) -> Worded
     ensures { made result ≡ packed (patch_said value size rd) }
 {
