@@ -42,7 +42,7 @@ fn build() -> Result<(), String> {
         folder
     } else {
         let out = PathBuf::from(variable("OUT_DIR")?);
-        library(&top, &shared(&top, &out), &target, &out.join("library"))?;
+        library(&top, shared(&top, &out), &target, &out.join("library"))?;
         out.join("library")
     };
     println!("cargo::rustc-link-search=native={}", folder.display());
@@ -63,13 +63,13 @@ fn rerun(top: &Path) -> Result<(), String> {
     Ok(())
 }
 
-/// The folder to prove in. All profiles and targets of one target folder of cargo's share it: OUT_DIR is TARGET-FOLDER/[TARGET/]PROFILE/build/../out, and
-/// where it is not, it is shared by none. Where cargo's folder lies inside of this one, it is below target/: elsewhere rt would take the copy for crates that
-/// nothing proves.
-fn shared(top: &Path, out: &Path) -> PathBuf {
+/// The folder to prove in, or none where that is the package's own: in a checkout that has cargo's folder inside, rt takes any other copy of the crates for
+/// crates that nothing proves. Else all profiles and targets of one target folder of cargo's share it: OUT_DIR is TARGET-FOLDER/[TARGET/]PROFILE/build/../out,
+/// and where it is not, it is shared by none.
+fn shared(top: &Path, out: &Path) -> Option<PathBuf> {
     if let (Ok(top), Ok(out)) = (top.canonicalize(), out.canonicalize()) {
-        if out.starts_with(&top) {
-            return top.join("target/vaimalofo");
+        if out.starts_with(&top) && sources::is_whole(&top) {
+            return None;
         }
     }
     let build = out.ancestors().skip(2).take(2).find(|above| above.ends_with("build"));
@@ -82,17 +82,21 @@ fn shared(top: &Path, out: &Path) -> PathBuf {
             Some(above)
         }
     });
-    all.unwrap_or(out).join("vaimalofo")
+    Some(all.unwrap_or(out).join("vaimalofo"))
 }
 
-/// The project's own command `library`, which compares the kit with the file KIT, proves in a copy of the sources and says crate by crate what it proves:
+/// The project's own command `library`, which compares the kit with the file KIT, proves the sources or a copy of them, and says crate by crate what it proves:
 /// `cargo build -vv` shows that as it comes. All else that it says is a warning, or why it failed.
-fn library(top: &Path, work: &Path, target: &str, folder: &Path) -> Result<(), String> {
+fn library(top: &Path, work: Option<PathBuf>, target: &str, folder: &Path) -> Result<(), String> {
     if !cfg!(target_os = "linux") {
         return Err(format!("the kit, which proves the C entries, runs on Linux alone: set {PREBUILT} to a folder that `library {target}` has written there"));
     }
     let mut command = Command::new("bash");
-    command.arg(top.join("library")).arg("--in").arg(work).arg(target).arg(folder);
+    command.arg(top.join("library"));
+    if let Some(work) = work {
+        command.arg("--in").arg(work);
+    }
+    command.arg(target).arg(folder);
     let run = command.stdin(Stdio::null()).stdout(Stdio::null()).stderr(Stdio::piped()).spawn();
     let mut child =
         run.map_err(|why| format!("cannot run bash, which runs the command `library`: {why}"))?;

@@ -5,23 +5,35 @@ use std::collections::HashMap;
 use std::fs;
 use std::path::Path;
 
-/// All but the crates.
-const USED: &str = "KIT LICENSE NOTICE crates.txt gate/kit gate/module gate/needed gate/own gate/prove gate/room host/include/vaimalofo.h library targets/compile \
+/// All but the crates, and the list of these.
+const USED: &str = "KIT LICENSE NOTICE gate/kit gate/module gate/needed gate/own gate/prove gate/room host/include/vaimalofo.h library targets/compile \
                     targets/portable.awk";
+const LIST: &str = "crates.txt";
 
 /// The files, and the folders whose files all count, by their names below the package's folder.
 pub fn paths(top: &Path) -> Result<Vec<String>, String> {
     let mut paths: Vec<String> = USED.split_whitespace().map(String::from).collect();
-    for name in crates(&read(&top.join("crates.txt"))?) {
+    for name in crates(&read(&top.join(LIST))?) {
         let parts = ["src", "specs", "proofs"].map(|part| format!("crates/{name}/{part}"));
         paths.extend(parts.into_iter().filter(|part| top.join(part).is_dir()));
     }
     Ok(paths)
 }
 
-/// One sum of all of them: that of the lines `SUM  NAME`, sorted.
+/// Whether all crates are there that the list names, as they are in a checkout, and not in a package.
+pub fn is_whole(top: &Path) -> bool {
+    let list = read(&top.join(LIST)).unwrap_or_default();
+    list.lines().filter_map(name).all(|name| top.join(format!("crates/{name}/src")).is_dir())
+}
+
+/// One sum of all of them: that of the lines `SUM  NAME`, sorted. Of the list of crates the lines of those count.
 pub fn sum(top: &Path) -> Result<String, String> {
-    let mut lines = Vec::new();
+    let list = read(&top.join(LIST))?;
+    let needed = crates(&list);
+    let counts =
+        |line: &&str| name(line).is_some_and(|name| needed.iter().any(|need| need == name));
+    let listed: String = list.lines().filter(counts).flat_map(|line| [line, "\n"]).collect();
+    let mut lines = vec![format!("{}  {LIST}\n", sha256::hex(listed.as_bytes()))];
     for path in paths(top)? {
         add(top, path, &mut lines)?;
     }
@@ -44,23 +56,30 @@ fn add(top: &Path, path: String, lines: &mut Vec<String>) -> Result<(), String> 
     Ok(())
 }
 
-/// The crates that export C entries, whose names begin with host, and all that they need.
+/// The crate that a line of the list is of.
+fn name(line: &str) -> Option<&str> {
+    line.split([' ', ':', '#']).next().filter(|name| !name.is_empty())
+}
+
+/// The static libraries, which export the C entries, and all that they need.
 fn crates(list: &str) -> Vec<String> {
     let lines = list.lines().filter_map(|line| line.split('#').next()?.split_once(':'));
-    let needs: HashMap<&str, &str> = lines.collect();
-    let mut found: Vec<&str> =
-        needs.keys().copied().filter(|name| name.starts_with("host")).collect();
+    let lines: Vec<(&str, &str)> = lines.map(|(of, needs)| (of.trim(), needs)).collect();
+    let bare = |of: &'_ str| of.split(' ').next().unwrap_or_default().to_owned();
+    let needs: HashMap<String, &str> = lines.iter().map(|(of, needs)| (bare(of), *needs)).collect();
+    let exports = lines.iter().filter(|(of, _)| of.ends_with(" staticlib"));
+    let mut found: Vec<String> = exports.map(|(of, _)| bare(of)).collect();
     let mut next = 0;
     while let Some(name) = found.get(next) {
         for need in needs[name].split_whitespace() {
-            if needs.contains_key(need) && !found.contains(&need) {
-                found.push(need);
+            if needs.contains_key(need) && !found.iter().any(|name| name == need) {
+                found.push(need.into());
             }
         }
         next += 1;
     }
     found.sort_unstable();
-    found.into_iter().map(String::from).collect()
+    found
 }
 
 pub fn read(file: &Path) -> Result<String, String> {
