@@ -63,9 +63,9 @@ fn rerun(top: &Path) -> Result<(), String> {
     Ok(())
 }
 
-/// The folder to prove in, or none where that is the package's own: in a checkout that has cargo's folder inside, rt takes any other copy of the crates for
-/// crates that nothing proves. Else all profiles and targets of one target folder of cargo's share it: OUT_DIR is TARGET-FOLDER/[TARGET/]PROFILE/build/../out,
-/// and where it is not, it is shared by none.
+/// The folder to prove in, or none where that is the package's own: in a checkout that has cargo's folder inside, rt takes any other copy of the crates
+/// for crates that nothing proves. Else all profiles and targets of one target folder of cargo's share it: OUT_DIR is
+/// TARGET-FOLDER/[TARGET/]PROFILE/build/../out, and where it is not, it is shared by none.
 fn shared(top: &Path, out: &Path) -> Option<PathBuf> {
     if let (Ok(top), Ok(out)) = (top.canonicalize(), out.canonicalize()) {
         if out.starts_with(&top) && sources::is_whole(&top) {
@@ -85,8 +85,8 @@ fn shared(top: &Path, out: &Path) -> Option<PathBuf> {
     Some(all.unwrap_or(out).join("vaimalofo"))
 }
 
-/// The project's own command `library`, which compares the kit with the file KIT, proves the sources or a copy of them, and says crate by crate what it proves:
-/// `cargo build -vv` shows that as it comes. All else that it says is a warning, or why it failed.
+/// The project's own command `library`, which compares the kit with the file KIT, proves the sources or a copy of them, and says crate by crate what it
+/// proves: `cargo build -vv` shows that as it comes. All else that it says is a warning, or why it failed.
 fn library(top: &Path, work: Option<PathBuf>, target: &str, folder: &Path) -> Result<(), String> {
     if !cfg!(target_os = "linux") {
         return Err(format!("the kit, which proves the C entries, runs on Linux alone: set {PREBUILT} to a folder that `library {target}` has written there"));
