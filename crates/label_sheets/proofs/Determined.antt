@@ -1,46 +1,44 @@
--- Each public entry's contract allows one answer, and one sheet or run after it. A walked function has no reading of its contract: that the contract is
--- the equation which determines is shown beside it. Assumes nothing.
+-- Each public entry's contract allows one answer, and one sheet or run after it. Beside it: the contract's own reading is one equation, which says what a
+-- definition makes of the arguments. Assumes nothing.
 use mathlib.Core.Path.{◌≡◌, refl}
 use mathlib.Core.List.{List}
 use Prim.Native.Nat.{ℕ}
-use seplogic.Ra.Ura.{Ura}
-use base.Logic.{SProp}
-use prog.Memory.{Memory}
-use prog.Routine.{Routine}
-use types.Logic.{Logic}
-use contract.Lifetimes.{Lfts}
-use contract.Monad.{Fun, fact}
-use denote.Ref.{Bor}
 use Rattle.words.specs.declared.Place.{Place}
-use Rattle.words.proofs.Contracts.{one_pair}
+use Rattle.words.proofs.Contracts.{OneWrite, one_pair}
 use Rattle.labels.specs.declared.Use.{Use}
 use Rattle.labels.specs.declared.Counted.{Counted}
 use Rattle.labels.specs.Sheet.{use_record, use_of, finish_of, count_said}
 use Rattle.labels.proofs.Determined.{count_all}
-use Rattle.label_sheets.specs.contracts.use_label as use_label
-use Rattle.label_sheets.specs.contracts.finish as finish
+use Rattle.label_sheets.proofs.use_label.Reads as use_label
+use Rattle.label_sheets.proofs.finish.Reads as finish
 
-module _ (uses : Bor (List Use)) (n : ℕ) (labels words : Bor (List ℕ)) (at : Place) where
-  -- ---- a use
-  module _ (label format : ℕ) where
-    abbrev pub Used : Counted → Bor (List Use) → Type 0
-    Used c uses' = (count_said c, uses'.now) ≡ use_of labels.now words.now uses.now n at (use_record label at format)
+-- a reading is this claim, whatever the lifetimes, the arguments, the answer and the arguments at exit
+module _ {K : Type 0} {A R E : K → Type 0} where
+  abbrev pub Promises : ((k : K) → A k → R k → E k → Type 0) → ((k : K) → A k → R k → E k → Type 0) → Type 1
+  Promises Post Claim = (k : K) (a : A k) (r : R k) (x : E k) → Post k a r x ≡ Claim k a r x
 
-    pub use_label_promised : {M : Type 1} {𝓤 : Ura M} (𝓛 : Logic 𝓤) (mem : Memory → SProp 𝓤) (run : Routine → Fun 𝓤) (κs : Lfts 3) (c : Counted) (uses' : Bor (List Use))
-        → (use_label.clauses 𝓛 mem run κs (uses, (n, (labels, (words, (label, (at, (format, tt)))))))).ensures tt c (uses', (n, (labels, (words, (label, (at, (format, tt)))))))
-        ≡ fact 𝓤 (Used c uses')
-    use_label_promised 𝓛 mem run κs c uses' = refl
+-- ---- a use
 
-    pub use_label_determined : (c d : Counted) (uses' uses'' : Bor (List Use)) → Used c uses' → Used d uses'' → (c ≡ d) × (uses'.now ≡ uses''.now)
-    use_label_determined c d uses' uses'' p q = let e = one_pair p q in (count_all c d e.0, e.1)
+module _ (uses : List Use) (n : ℕ) (labels words : List ℕ) (label : ℕ) (at : Place) (format : ℕ) where
+  abbrev pub Used : Counted → List Use → Type 0
+  Used c uses' = (count_said c, uses') ≡ use_of labels words uses n at (use_record label at format)
 
-  -- ---- finishing
-  abbrev pub Finishes : Counted → Bor (List ℕ) → Type 0
-  Finishes c words' = (count_said c, words'.now) ≡ finish_of at labels.now words.now uses.now n
+pub use_label_promised : Promises use_label.Post
+    (λ k (uses, (n, (labels, (words, (label, (at, (format, _))))))) c x. Used uses.now n labels.now words.now label at format c x.0.now)
+use_label_promised k a c x = refl
 
-  pub finish_promised : {M : Type 1} {𝓤 : Ura M} (𝓛 : Logic 𝓤) (mem : Memory → SProp 𝓤) (run : Routine → Fun 𝓤) (κs : Lfts 3) (c : Counted) (words' : Bor (List ℕ))
-      → (finish.clauses 𝓛 mem run κs (uses, (n, (labels, (words, (at, tt)))))).ensures tt c (uses, (n, (labels, (words', (at, tt))))) ≡ fact 𝓤 (Finishes c words')
-  finish_promised 𝓛 mem run κs c words' = refl
+pub use_label_determined : OneWrite use_label.Post (λ k x. x.0.now)
+use_label_determined k a r s x y p q = let e = one_pair p q in (count_all r s e.0, e.1)
 
-  pub finish_determined : (c d : Counted) (words' words'' : Bor (List ℕ)) → Finishes c words' → Finishes d words'' → (c ≡ d) × (words'.now ≡ words''.now)
-  finish_determined c d words' words'' p q = let e = one_pair p q in (count_all c d e.0, e.1)
+-- ---- finishing
+
+module _ (uses : List Use) (n : ℕ) (labels words : List ℕ) (at : Place) where
+  abbrev pub Finishes : Counted → List ℕ → Type 0
+  Finishes c words' = (count_said c, words') ≡ finish_of at labels words uses n
+
+pub finish_promised : Promises finish.Post
+    (λ k (uses, (n, (labels, (words, (at, _))))) c x. Finishes uses.now n labels.now words.now at c x.1.1.1.0.now)
+finish_promised k a c x = refl
+
+pub finish_determined : OneWrite finish.Post (λ k x. x.1.1.1.0.now)
+finish_determined k a r s x y p q = let e = one_pair p q in (count_all r s e.0, e.1)
