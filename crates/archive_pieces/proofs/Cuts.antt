@@ -1,13 +1,12 @@
 -- An archive has one list of items, every way to cut it is told to its end, and all of them alike. Assumes nothing.
 use mathlib.Core.Path.{◌≡◌, refl, sym, ap, ◌∙◌}
-use mathlib.Core.List.{List, [], ◌∷◌, ◌++◌}
+use mathlib.Core.List.{List, [], ◌∷◌}
 use Prim.Native.Nat.{ℕ, zero, suc, ◌+◌, ◌*◌, ◌^◌, ◌≤◌, ◌<◌}
 use native.Mathlib.Omega.{arith}
 use lib.ListN.{length, drop, length-append, length-drop}
 use Rattle.items.specs.declared.Item.{Item}
 use Rattle.reader.specs.declared.Constant.{Constant}
 use Rattle.reader.specs.declared.Span.{Span}
-use Rattle.reader.specs.declared.Found.{Found}
 use Rattle.reader.specs.declared.Found.TheVariants as found
 use Rattle.archive_pieces.specs.declared.Told.{Told}
 use Rattle.archive_pieces.specs.declared.Told.TheVariants.{Joined, Single}

@@ -2,17 +2,15 @@
 use mathlib.Core.Path.{◌≡◌, refl, sym, ap, ◌∙◌}
 use mathlib.Core.Bool.{Bool, true, false, cond}
 use mathlib.Core.List.{List, [], ◌∷◌}
-use mathlib.Core.Option.{Option, none, some, none-ne-some}
+use mathlib.Core.Option.{none, some, none-ne-some}
 use Prim.Native.Nat.{ℕ, ◌+◌, ◌-◌, ◌*◌, ◌^◌, ◌≤◌, ◌<◌}
 use native.Mathlib.Omega.{arith}
-use borrow.Author.Tests.{eqb-true, eqb-false}
 use lib.Dec.{eqb, ltb}
 use lib.ListN.{length, take, length-take}
 use Rattle.arm.specs.Bits.{Ones}
 use Rattle.arm.specs.MoveWide.{datasize}
 use Rattle.words.specs.declared.Refusal.{Refusal}
 use Rattle.words.specs.declared.Refusal.TheVariants.{Width, Register, NoField, NoRoom}
-use Rattle.items.specs.declared.Item.{Item}
 use Rattle.reader.specs.declared.Constant.{Constant}
 use Rattle.reader.specs.declared.Span.{Span}
 use Rattle.reader.specs.declared.Found.{Found}
@@ -23,12 +21,12 @@ use Rattle.reader.proofs.Finds as finds
 use Rattle.reader.proofs.Cover.{onward}
 use Rattle.reader.proofs.Constants.{leading_take}
 use Rattle.archive_pieces.specs.declared.Told.{Told}
-use Rattle.archive_pieces.specs.declared.Told.TheVariants.{Joined, Single}
+use Rattle.archive_pieces.specs.declared.Told.TheVariants.{Joined}
 use Rattle.archive_pieces.specs.declared.Carried.{Carried}
 use Rattle.archive_pieces.specs.declared.Carried.TheVariants.{Nothing, Begun}
 use Rattle.archive_pieces.specs.declared.Step.{Step}
 use Rattle.archive_pieces.specs.declared.Step.TheVariants.{Tell, Carry}
-use Rattle.archive_pieces.specs.Steps.{reached_of, begins_of, goes_on_of, step_of}
+use Rattle.archive_pieces.specs.Steps.{begins_of, goes_on_of, step_of}
 
 -- ---- the two cases of a step
 

@@ -6,7 +6,7 @@ use Prim.Native.Nat.{ℕ, ◌+◌}
 use native.Mathlib.Omega.{arith}
 use borrow.Author.Tests.{eqb-true}
 use lib.Dec.{eqb}
-use lib.ListN.{length, get_or}
+use lib.ListN.{length}
 use Rattle.wide_moves.specs.declared.WideMove.{WideMove}
 use Rattle.items.specs.Items.{item_of}
 use Rattle.items.specs.declared.Item.{Item}
@@ -17,7 +17,6 @@ use Rattle.reader.specs.declared.Found.{Found}
 use Rattle.reader.specs.declared.Found.TheVariants as found
 use Rattle.reader.specs.Found.{span, joined_of, found_item, found_of, resumed_of}
 use Rattle.reader.proofs.Finds as finds
-use Rattle.archive_pieces.specs.declared.Told.{Told}
 use Rattle.archive_pieces.specs.declared.Told.TheVariants.{Joined, Single}
 use Rattle.archive_pieces.specs.declared.Carried.{Carried}
 use Rattle.archive_pieces.specs.declared.Carried.TheVariants.{Nothing, Begun}

@@ -2,8 +2,7 @@
 use mathlib.Core.Path.{◌≡◌, refl, sym, ap, ◌∙◌}
 use mathlib.Core.Bool.{Bool, true, false, cond}
 use mathlib.Core.List.{List, [], ◌∷◌, ◌++◌, append-nil, append_assoc}
-use mathlib.Core.Option.{none, some}
-use Prim.Native.Nat.{ℕ, ◌+◌, ◌-◌, ◌%◌, ◌^◌, ◌≤◌, ◌<◌}
+use Prim.Native.Nat.{ℕ, ◌+◌, ◌^◌, ◌≤◌, ◌<◌}
 use native.Mathlib.Nat.{add-zero}
 use native.Mathlib.Omega.{arith}
 use borrow.Author.Tests.{eqb-true, eqb-false}
@@ -29,7 +28,7 @@ use Rattle.archive_pieces.specs.declared.Step.TheVariants.{Tell, Carry}
 use Rattle.archive_pieces.specs.Steps.{begins_of, goes_on_of, step_of}
 use Rattle.archive_pieces.specs.Archive.{Items, end, joined, single, on_by, Pieces, last, tells, carries, joined_up}
 use Rattle.archive_pieces.specs.Archive as archive
-use Rattle.archive_pieces.proofs.Forward.{Spans, spans_of, empty, Resumed, goes, refused, resumed, tell_back, carry_back, carry_tell}
+use Rattle.archive_pieces.proofs.Forward.{spans_of, empty, Resumed, goes, refused, resumed, tell_back, carry_back, carry_tell}
 
 -- what is carried into a piece: no words, or those of a constant, which begins at a position
 abbrev Keeps : Carried → List ℕ → ℕ → Type 0
