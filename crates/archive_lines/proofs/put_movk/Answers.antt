@@ -1,0 +1,9 @@
+-- Goals of `archive_lines::put_movk`. Assumes nothing.
+use Rattle.lines.proofs.Parts.{before, then}
+use Rattle.archive_lines.proofs.put_movk.Goals as goal
+
+pub returns : goal.returns
+returns c =
+    rw (← c.size_of.ensures)
+    (then _ _ _ c.put_field-p.ensures
+    (then _ _ _ c.put_field-q.ensures (before _ _ _ c.text-s.ensures _ (before _ _ _ c.word-t.ensures _ c.put_field.ensures))))
