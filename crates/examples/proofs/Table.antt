@@ -1,5 +1,5 @@
 -- Document 01's twelve marked examples as one checked table, through the definitions that the contracts cite; of the logical encoder, whose
--- contract is a relation, through the function that its one answer is (`the-answer` of logical/proofs/Model). Assumes nothing.
+-- contract is a relation, through the function that its one answer is (`the_answer` of logical/proofs/Model). Assumes nothing.
 use mathlib.Core.Path.{refl}
 use mathlib.Core.List.{List, [], ◌∷◌}
 use Prim.Native.Nat.{ℕ}

@@ -1,6 +1,6 @@
 -- What was taken before a read and by it.
 use Rattle.std.proofs.Common.{rules}
-use Rattle.requests.proofs.Known.{takes-none, takes-more, takes-kept}
+use Rattle.requests.proofs.Known.{takes-more, takes-kept}
 use Rattle.requests.proofs.read_full.Goals as goal
 
 pub returns-in_err-n-clause-front : goal.returns-in_err-n-clause-front

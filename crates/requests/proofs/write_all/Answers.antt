@@ -1,6 +1,6 @@
 -- What stands in the output before a write and after it.
 use Rattle.std.proofs.Common.{rules}
-use Rattle.requests.proofs.Known.{adds-none, adds-more, adds-kept}
+use Rattle.requests.proofs.Known.{adds-more, adds-kept}
 use Rattle.requests.proofs.write_all.Goals as goal
 
 pub returns-in_err-n : goal.returns-in_err-n
