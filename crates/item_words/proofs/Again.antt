@@ -1,32 +1,28 @@
 -- Every word, written again from its own fields, is the same word, except logical immediates that are not normal; and their normal spelling means the
 -- same. Assumes nothing.
 use mathlib.Core.Path.{◌≡◌, refl, sym, ap, subst, ◌∙◌}
-use mathlib.Core.Bool.{true, false}
+use mathlib.Core.Bool.{true}
 use mathlib.Core.List.{List, [], ◌∷◌}
-use mathlib.Core.Option.{some}
-use Prim.Native.Nat.{ℕ, zero, suc, ◌+◌, ◌-◌, ◌*◌, ◌/◌, ◌%◌, ◌^◌, ◌≤◌, ◌<◌}
+use Prim.Native.Nat.{ℕ, zero, suc, ◌+◌, ◌-◌, ◌*◌, ◌/◌, ◌%◌, ◌^◌, ◌<◌}
 use native.Mathlib.Nat.{mod-eq_of_lt}
 use native.Mathlib.Omega.{arith}
 use borrow.Author.Tests.{ltb-true, lt-ltb}
-use lib.Dec.{ltb}
 use Rattle.arm.specs.Bits.{bits}
 use Rattle.arm.specs.BitMasks.{esize, wmask}
-use Rattle.arm.specs.LogicalImmediate.{Logical, logical_op, decode_logical}
+use Rattle.arm.specs.LogicalImmediate.{decode_logical}
 use Rattle.arm.specs.MoveWide.{datasize}
 use Rattle.arm.proofs.Laws.{turn_mask}
 use Rattle.arm.proofs.Logical.{spelled, decoded}
 use Rattle.words.specs.Said.{Said, ok}
 use Rattle.logical.specs.Answer.{fields, Encoded}
-use Rattle.logical.specs.declared.LogicalImm.{LogicalImm}
 use Rattle.logical.proofs.Laws.{encoded_one}
 use Rattle.logical_decoder.proofs.Laws.{again}
-use Rattle.logical_words.specs.Word.{base_of, placed_of, word_of}
+use Rattle.logical_words.specs.Word.{word_of}
 use Rattle.logical_words.proofs.Word.{word_filled, word_spelled}
-use Rattle.wide_moves.proofs.Wides.{Passes, fields_of}
 use Rattle.wide_moves.proofs.Again.{cut, top, wide_again}
 use Rattle.items.specs.declared.Item.{Item}
 use Rattle.items.specs.declared.Item.TheVariants as item
-use Rattle.items.specs.Items.{form_number, logical_word_item, item_of}
+use Rattle.items.specs.Items.{form_number, item_of}
 use Rattle.items.proofs.Forms.{form_has}
 use Rattle.items.proofs.Logicals.{is_width, operation_is, IsLogical, logical_at}
 use Rattle.items.proofs.Cases.{by_item}

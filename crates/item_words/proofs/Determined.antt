@@ -1,8 +1,5 @@
 -- The contract of the public entry allows one answer. Assumes nothing.
 use mathlib.Core.Path.{◌≡◌}
-use mathlib.Core.List.{List}
-use Prim.Native.Nat.{ℕ}
-use Rattle.words.specs.Said.{Said}
 use Rattle.words.specs.Answer.{made}
 use Rattle.words.specs.Listed.{packed}
 use Rattle.words.specs.declared.Worded.{Worded}
@@ -16,7 +13,7 @@ use Rattle.item_words.proofs.write_item.Reads as write_item
 
 same : (i : Item) (r s : Worded) → ForItem i (λ x. made r ≡ packed x) → ForItem i (λ x. made s ≡ packed x) → r ≡ s
 same (item.Wide m) r s p q = made_all r s (one_answer p q)
-same (item.Logical l) r s p q = made_all r s (one_from p q)
+same (item.Logical l) r s p q = made_all r s (one_from _ p q)
 same (item.Displaced d) r s p q = made_all r s (one_answer p q)
 same (item.Unknown w) r s p q = made_all r s (one_answer p q)
 
