@@ -1,8 +1,0 @@
-/* The one function of the kit's own C code that the batch program calls. The kit has that code for x86-64 alone. */
-#include <errno.h>
-
-int rattle_errno(void);
-
-int rattle_errno(void) {
-    return errno;
-}
