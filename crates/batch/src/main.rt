@@ -1,6 +1,6 @@
 // Reads records from standard input and prints a line for each.
 #![tactic(auto)]
 
-fn main() {
-    batches::run_all();
+fn main(rt: HostRuntime) {
+    batches::run_all(&rt);
 }

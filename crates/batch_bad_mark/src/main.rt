@@ -1,6 +1,6 @@
 // The batch program on an input with a bad mark in the middle.
 #![tactic(auto)]
 
-fn main() {
-    batches::run_all();
+fn main(rt: HostRuntime) {
+    batches::run_all(&rt);
 }

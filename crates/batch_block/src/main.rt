@@ -1,6 +1,6 @@
 // The batch program on an input of exactly a block, 16380 bytes.
 #![tactic(auto)]
 
-fn main() {
-    batches::run_all();
+fn main(rt: HostRuntime) {
+    batches::run_all(&rt);
 }

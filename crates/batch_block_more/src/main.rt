@@ -1,6 +1,6 @@
 // The batch program on an input of a block and one byte.
 #![tactic(auto)]
 
-fn main() {
-    batches::run_all();
+fn main(rt: HostRuntime) {
+    batches::run_all(&rt);
 }

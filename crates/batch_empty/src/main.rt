@@ -1,6 +1,6 @@
 // The batch program on an empty input.
 #![tactic(auto)]
 
-fn main() {
-    batches::run_all();
+fn main(rt: HostRuntime) {
+    batches::run_all(&rt);
 }

@@ -1,6 +1,6 @@
 // The batch program on document 01's three records.
 #![tactic(auto)]
 
-fn main() {
-    batches::run_all();
+fn main(rt: HostRuntime) {
+    batches::run_all(&rt);
 }

@@ -1,5 +1,6 @@
 // The batch program: records from standard input, and a line for each on standard output. Input comes in blocks of whole records through a
-// fixed buffer, and lines go out through another. What ends it but the end of the input is told on standard error.
+// fixed buffer, and lines go out through another. What ends it but the end of the input is told on standard error. Input, output and standard
+// error are lent by the caller.
 #![tactic(auto)]
 
 ghost use Rattle.std.specs.Prelude.{◌≡◌, ◌+◌, ◌/◌, ◌<◌, ◌≤◌, false, length, take};
@@ -8,6 +9,8 @@ ghost use Rattle.records.specs.Inputs.{offset_after};
 ghost use Rattle.batches.specs.Printed.{ends_of, Upto};
 
 use lines::Answer;
+use std::io;
+use std::io::Read;
 
 // How far the records of a block were printed: bytes of the block and of the run, the offset behind them, and whether that was the end.
 #[derive(Clone, Copy)]
@@ -33,64 +36,72 @@ struct Filled {
 }
 
 // Tells on standard error that a line was the end, and why.
-fn tell(line: &[u8], offset: u64, why: &[u8]) {
-    io::write_all(2, line);
-    io::print_decimal(2, offset);
-    io::write_all(2, why);
+fn tell<E: Eprint>(rt: &E, line: &str, offset: u64, why: &str) {
+    let _ = eprint!(rt; "{line}{offset}{why}");
 }
 
 // A bad mark at a record whose end stands at an offset.
-fn tell_bad_mark(behind: u64) {
+fn tell_bad_mark<E: Eprint>(rt: &E, behind: u64) {
     tell(
-        b"bad mark at ",
+        rt,
+        "bad mark at ",
         std::num::wrapping_sub_u64(behind, 12),
-        b": a record opens with the bytes 46 53 (hex)\n",
+        ": a record opens with the bytes 46 53 (hex)\n",
     );
 }
 
 // A tail that stands at an offset.
-fn tell_cut(offset: u64) {
+fn tell_cut<E: Eprint>(rt: &E, offset: u64) {
     tell(
-        b"cut at ",
+        rt,
+        "cut at ",
         offset,
-        b": the last record has fewer than 12 bytes\n",
+        ": the last record has fewer than 12 bytes\n",
     );
 }
 
+// Tells on standard error what failed, and why.
+fn tell_failed<E: Eprint>(rt: &E, what: &str, why: io::Error) {
+    let _ = eprintln!(rt; "{what}: {why}");
+}
+
 // Writes lines, and tells where that fails.
-fn written(text: &[u8]) -> bool {
-    if io::write_all(1, text) {
-        return true;
+fn written<H: Print + Eprint>(rt: &H, text: &[u8]) -> bool {
+    match rt.write_all(text) {
+        Ok(()) => true,
+        Err(e) => {
+            tell_failed(rt, "standard output", e);
+            false
+        }
     }
-    os::fail(b"standard output");
-    false
 }
 
 // One read, which may end the input (no bytes) or fail, which is told.
-fn read_some(part: &mut [u8]) -> Filled
+fn read_some<R: Read, E: Eprint>(rt: &E, input: &mut R, part: &mut [u8]) -> Filled
     ensures { result.count ≤ length part.new }
 {
-    let got = libc::read(0, part);
-    if got < 0 {
-        os::fail(b"standard input");
-        return Filled {
-            count: 0,
-            failed: true,
-        };
-    }
-    Filled {
-        count: io::count(got, part),
-        failed: false,
+    match input.read(part) {
+        Ok(count) => Filled {
+            count,
+            failed: false,
+        },
+        Err(e) => {
+            tell_failed(rt, "standard input", e);
+            Filled {
+                count: 0,
+                failed: true,
+            }
+        }
     }
 }
 
 // Reads until the buffer is full, the input ends or a read fails.
-fn fill(buf: &mut [u8]) -> Filled
+fn fill<R: Read, E: Eprint>(rt: &E, input: &mut R, buf: &mut [u8]) -> Filled
     ensures { result.count ≤ length buf.new }
 {
     let mut done = 0;
     while done < buf.len() {
-        let f = read_some(&mut buf[done..]);
+        let f = read_some(rt, input, &mut buf[done..]);
         if f.count == 0 {
             return Filled {
                 count: done,
@@ -168,7 +179,7 @@ fn print(bytes: &[u8], offset: u64, out: &mut [u8]) -> Printed
 }
 
 // The lines of a block, written: one write for each run of lines. It is over also where nothing more can be written.
-fn pass(bytes: &[u8], offset: u64, out: &mut [u8]) -> Next
+fn pass<H: Print + Eprint>(rt: &H, bytes: &[u8], offset: u64, out: &mut [u8]) -> Next
     requires { 96 ≤ length out.old }
     ensures { result.over ≡ false → result.offset ≡ offset_after offset (length bytes.now / 12) }
 {
@@ -179,14 +190,14 @@ fn pass(bytes: &[u8], offset: u64, out: &mut [u8]) -> Next
         let n = p.written;
         i += p.taken;
         next = p.next;
-        if !written(&out[..n]) {
+        if !written(rt, &out[..n]) {
             return Next {
                 offset: next,
                 over: true,
             };
         }
         if p.ended {
-            tell_bad_mark(next);
+            tell_bad_mark(rt, next);
             return Next {
                 offset: next,
                 over: true,
@@ -200,30 +211,36 @@ fn pass(bytes: &[u8], offset: u64, out: &mut [u8]) -> Next
 }
 
 // The line of what is left behind the last record.
-fn last(count: usize, offset: u64, out: &mut [u8]) {
+fn last<H: Print + Eprint>(rt: &H, count: usize, offset: u64, out: &mut [u8]) {
     let n = lines::line(records::tail(count, offset), out, 0);
     if n <= out.len() {
-        written(&out[..n]);
+        written(rt, &out[..n]);
     }
     if 0 < n {
-        tell_cut(offset);
+        tell_cut(rt, offset);
     }
 }
 
 // A block of the input. Only the last one is not full, and only that one has a tail, which is cut where the input ended.
-fn block(buf: &mut [u8], offset: u64, out: &mut [u8]) -> Next
+fn block<R: Read, H: Print + Eprint>(
+    rt: &H,
+    input: &mut R,
+    buf: &mut [u8],
+    offset: u64,
+    out: &mut [u8],
+) -> Next
     requires { 96 ≤ length out.old }
     ensures { result.over ≡ false → result.offset ≡ offset_after offset (length buf.new / 12) }
 {
-    let f = fill(buf);
+    let f = fill(rt, input, buf);
     let n = f.count;
-    let next = pass(&buf[..n], offset, out);
+    let next = pass(rt, &buf[..n], offset, out);
     if next.over {
         return next;
     }
     if n < buf.len() {
         if !f.failed {
-            last(n % 12, next.offset, out);
+            last(rt, n % 12, next.offset, out);
         }
         return Next {
             offset: next.offset,
@@ -233,23 +250,31 @@ fn block(buf: &mut [u8], offset: u64, out: &mut [u8]) -> Next
     next
 }
 
-fn block_in(buf: &mut [u8; 16380], offset: u64, out: &mut [u8; 65536]) -> Next {
-    block(buf, offset, out)
+fn block_in<R: Read, H: Print + Eprint>(
+    rt: &H,
+    input: &mut R,
+    buf: &mut [u8; 16380],
+    offset: u64,
+    out: &mut [u8; 65536],
+) -> Next {
+    block(rt, input, buf, offset, out)
 }
 
-// Answers every record of standard input on standard output. It is lent nothing and answers nothing; what it prints is compared.
-pub fn run_all()
+// Answers every record of standard input on standard output. It is lent the host and answers nothing; what it prints is compared.
+pub fn run_all<H: Input + Print + Eprint>(rt: &H)
     ensures { Unit }
 {
+    let mut input = rt.reader();
     let mut buf = [0u8; 16380];
-    let mut out = io::large_buffer();
+    let mut out = [0u8; 65536];
     let mut next = Next {
         offset: 0,
         over: false,
     };
-    let mut turns = u64::MAX;
-    while turns > 0 && !next.over {
-        next = block_in(&mut buf, next.offset, &mut out);
-        turns -= 1;
+    for _ in 0..u64::MAX {
+        next = block_in(rt, &mut input, &mut buf, next.offset, &mut out);
+        if next.over {
+            break;
+        }
     }
 }
