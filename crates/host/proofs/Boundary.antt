@@ -6,7 +6,7 @@ use mathlib.Core.List.{List, [], ◌∷◌}
 use mathlib.Core.Option.{Option, none, some}
 use Prim.Native.Nat.{ℕ, ◌+◌, ◌*◌, ◌^◌, ◌%◌, ◌<◌}
 use contract.Lifetimes.{Lfts}
-use denote.Ref.{Bor}
+use Rattle.std.proofs.Common.{MutBor}
 use lib.IntN.{ℤ}
 use lib.Seq.{slice}
 use Rattle.arm.specs.MoveWide.{Regs, write, run}
@@ -58,9 +58,9 @@ module _ (l : List ℕ) (at : Place) (n : ℕ) (l' : List ℕ) (x : Said (List �
     pub refusal : Refusals n
     refusal = refusal_to none low_none (plainly l at n l' x e)
 
-module _ (k : Lfts 1) (bytes bytes' : Bor (List ℕ)) (base-address position answer : ℕ) where
+module _ (k : Lfts 1) (bytes bytes' : MutBor (List ℕ)) (base_address position answer : ℕ) where
   abbrev at : Place
-  at = place_at base-address position
+  at = place_at base_address position
 
   abbrev l : List ℕ
   l = bytes.now
@@ -71,7 +71,7 @@ module _ (k : Lfts 1) (bytes bytes' : Bor (List ℕ)) (base-address position ans
   -- ---- moves: "run from any old content of registers 0 to 30, leaves the asked value in all 64 bits and the other registers alone"
 
   module _ (value register : ℕ)
-      (p : move.Post k (bytes, (base-address, (position, (value, (register, tt))))) answer (bytes', (base-address, (position, (value, (register, tt)))))) where
+      (p : move.Post k (bytes, (base_address, (position, (value, (register, tt))))) answer (bytes', (base_address, (position, (value, (register, tt)))))) where
     pub move_runs : refusal_in answer ≡ 0 → value < 2 ^ 64 → (R : Regs) → run (words_from answer position l') R ≡ some (write R register value)
     move_runs z v-is R =
         mov_said_lem value register v-is R (words_from answer position l') (found l at answer l' (mov_said value register) (move_sane value register) p z)
@@ -84,7 +84,7 @@ module _ (k : Lfts 1) (bytes bytes' : Bor (List ℕ)) (base-address position ans
     move_15 = fifteen l at answer l' (mov_said value register) p
 
   module _ (value size register : ℕ)
-      (p : patchable_move.Post k (bytes, (base-address, (position, (value, (size, (register, tt)))))) answer (bytes', (base-address, (position, (value, (size, (register, tt))))))) where
+      (p : patchable_move.Post k (bytes, (base_address, (position, (value, (size, (register, tt)))))) answer (bytes', (base_address, (position, (value, (size, (register, tt))))))) where
     pub patchable_move_runs : refusal_in answer ≡ 0 → value < 2 ^ 64 → (R : Regs) → run (words_from answer position l') R ≡ some (write R register (value % 2 ^ size))
     patchable_move_runs z v-is R =
         patch_said_lem value size register v-is R (words_from answer position l')

@@ -91,8 +91,7 @@ pub fn yes(b: bool) -> u64
 }
 
 // A move of a value to a register: 15, 2, 8.
-#[unsafe(no_mangle)]
-pub extern "C" fn vaimalofo_move(
+pub fn vaimalofo_move(
     bytes: &mut [u8],
     base_address: u64,
     position: usize,
@@ -110,8 +109,7 @@ pub extern "C" fn vaimalofo_move(
 }
 
 // A patchable move at a register size of 64 or 32: 15, 1, 2, 8.
-#[unsafe(no_mangle)]
-pub extern "C" fn vaimalofo_patchable_move(
+pub fn vaimalofo_patchable_move(
     bytes: &mut [u8],
     base_address: u64,
     position: usize,
