@@ -2,5 +2,5 @@
 #![tactic(auto)]
 
 fn main(rt: HostRuntime) {
-    batches::run_all(&rt);
+    batches::run_all(&rt, &mut rt.stdin());
 }

@@ -1,6 +1,5 @@
 // The batch program: records from standard input, and a line for each on standard output. Input comes in blocks of whole records through a
-// fixed buffer, and lines go out through another. What ends it but the end of the input is told on standard error. Input, output and standard
-// error are lent by the caller.
+// fixed buffer, and lines go out through another. What ends it but the end of the input is told on standard error.
 #![tactic(auto)]
 
 ghost use Rattle.std.specs.Prelude.{◌≡◌, ◌+◌, ◌/◌, ◌<◌, ◌≤◌, false, length, take};
@@ -260,11 +259,10 @@ fn block_in<R: Read, H: Print + Eprint>(
     block(rt, input, buf, offset, out)
 }
 
-// Answers every record of standard input on standard output. It is lent the host and answers nothing; what it prints is compared.
-pub fn run_all<H: Input + Print + Eprint>(rt: &H)
+// Answers every record of the input on standard output. It is lent the host and the input and answers nothing; what it prints is compared.
+pub fn run_all<R: Read, H: Print + Eprint>(rt: &H, input: &mut R)
     ensures { Unit }
 {
-    let mut input = rt.reader();
     let mut buf = [0u8; 16380];
     let mut out = [0u8; 65536];
     let mut next = Next {
@@ -272,7 +270,7 @@ pub fn run_all<H: Input + Print + Eprint>(rt: &H)
         over: false,
     };
     for _ in 0..u64::MAX {
-        next = block_in(rt, &mut input, &mut buf, next.offset, &mut out);
+        next = block_in(rt, input, &mut buf, next.offset, &mut out);
         if next.over {
             break;
         }
