@@ -1,6 +1,6 @@
 // Reads raw words from standard input and prints a line for each item.
 #![tactic(auto)]
 
-fn main() {
-    archives::run_all();
+fn main(rt: HostRuntime) {
+    archives::run_all(&rt);
 }

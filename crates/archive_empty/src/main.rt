@@ -1,6 +1,6 @@
 // The archive program on an input of no bytes.
 #![tactic(auto)]
 
-fn main() {
-    archives::run_all();
+fn main(rt: HostRuntime) {
+    archives::run_all(&rt);
 }

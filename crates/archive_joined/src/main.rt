@@ -1,6 +1,6 @@
 // The archive program on constants that stand over the ends of its buffer.
 #![tactic(auto)]
 
-fn main() {
-    archives::run_all();
+fn main(rt: HostRuntime) {
+    archives::run_all(&rt);
 }

@@ -1,8 +1,8 @@
 -- A turn of the loop that prints a piece, and piece after piece of one. Assumes nothing.
-use Rattle.std.proofs.Common.{◌≡◌, ℕ, ◌+◌, ◌-◌, ◌*◌, ◌%◌, ◌^◌, ◌<◌, ◌≤◌, Bool, true, false, List, [], ◌∷◌, ◌++◌, length, take, drop, sym, refl, ap, ◌∙◌, append_assoc, append-nil, add_assoc, arith, length-append, length-drop, drop-drop}
+use Rattle.std.proofs.Common.{◌≡◌, ℕ, ◌+◌, ◌-◌, ◌*◌, ◌%◌, ◌^◌, ◌<◌, ◌≤◌, Bool, true, false, List, [], ◌∷◌, ◌++◌, length, take, drop, sym, refl, ap, ◌∙◌, append_assoc, append-nil, arith, length-append, length-drop, drop-drop}
 use lib.Seq.{sets, length-sets}
 use Rattle.words.proofs.Runs.{sets_append}
-use Rattle.lines.specs.Parts.{bytes_of_all, most_of_all}
+use Rattle.lines.specs.Parts.{bytes_of_all}
 use Rattle.lines.proofs.Parts.{short_parts}
 use Rattle.archive_pieces.specs.declared.Told.{Told}
 use Rattle.archive_pieces.specs.declared.Carried.{Carried}
@@ -22,7 +22,7 @@ texts_append [] b = refl
 texts_append (t ∷ a) b = ap (λ (l : List ℕ). bytes_of_all (parts_of t) ++ l) (texts_append a b) ∙ sym (append_assoc (bytes_of_all (parts_of t)) (texts_of a) (texts_of b))
 
 -- no more words are taken than there are
-pub steps_within : {ws : List ℕ} {at₀ i at : ℕ} {k₀ k : Carried} {e : Bool} {ts : List Told} → Steps ws at₀ k₀ e i at k ts → i ≤ length ws
+pub steps_within : {ws : List ℕ} {at₀ : ℕ} {k₀ : Carried} {i at : ℕ} {k : Carried} {e : Bool} {ts : List Told} → Steps ws at₀ k₀ e i at k ts → i ≤ length ws
 steps_within start = omega arith
 steps_within {ws} (tell {i} {at} {n} {k} {t} s e) =
     omega (arith, steps_within s, (forward (drop i ws) at t n k e).within, length-drop i ws)
@@ -84,7 +84,7 @@ module _ {ws : List ℕ} {at₀ i n at : ℕ} {k₀ k : Carried} {ts : List Told
 
 -- ---- run after run of a piece
 
-pub on : {ws : List ℕ} {at₀ i at j at' : ℕ} {k₀ k k' : Carried} {e : Bool} {ts us : List Told}
+pub on : {ws : List ℕ} {at₀ : ℕ} {k₀ : Carried} {i at : ℕ} {k : Carried} {e : Bool} {j at' : ℕ} {k' : Carried} {ts us : List Told}
     → Steps ws at₀ k₀ false i at k ts → Steps (drop i ws) at k e j at' k' us → Steps ws at₀ k₀ e (i + j) at' k' (ts ++ us)
 on {i = i} {ts = ts} s start = let z : i + 0 ≡ i = omega arith in rw (z, append-nil ts) s
 on {ws} {i = i} {ts = ts} s (tell {i = j} {at} {n} {k} {t} {ts = us} r q) =
@@ -96,11 +96,11 @@ on {ws} {i = i} {ts = ts} s (carry {i = j} {at} {k} {l} {ts = us} r q) =
     let d : step_of (drop (i + j) ws) at k ≡ Carry l = ap (λ (l : List ℕ). step_of l at k) (sym (drop-drop j i ws)) ∙ q in
     rw (a, drop-drop j i ws) (carry (on s r) d)
 
-pub at-end : {ws : List ℕ} {at₀ i at : ℕ} {k₀ k : Carried} {ts : List Told} → Steps ws at₀ k₀ true i at k ts → i ≡ length ws
+pub at-end : {ws : List ℕ} {at₀ : ℕ} {k₀ : Carried} {i at : ℕ} {k : Carried} {ts : List Told} → Steps ws at₀ k₀ true i at k ts → i ≡ length ws
 at-end (carry s e) = refl
 
 -- each item is a step less to come
-all_fewer : {ws : List ℕ} {at₀ i at : ℕ} {k₀ k : Carried} {ts : List Told} → Steps ws at₀ k₀ false i at k ts
+all_fewer : {ws : List ℕ} {at₀ : ℕ} {k₀ : Carried} {i at : ℕ} {k : Carried} {ts : List Told} → Steps ws at₀ k₀ false i at k ts
     → 2 * (length ws - i) + held k + length ts ≤ 2 * length ws + held k₀
 all_fewer start = omega arith
 all_fewer {ws} (tell {i} {at} {n} {k} {t} {ts} s e) =
@@ -133,7 +133,7 @@ pub record Sofar (ws : List ℕ) (at₀ : ℕ) (k₀ : Carried) (e : Bool) (i at
 pub nothing_yet : (ws : List ℕ) (at : ℕ) (k : Carried) → Sofar ws at k false 0 at k
 nothing_yet ws at k = record { told = []; steps = start }
 
-pub all_passed : {ws : List ℕ} {at₀ i at : ℕ} {k₀ k : Carried} {e : Bool} → Sofar ws at₀ k₀ e i at k → e ≡ true → Passed ws at₀ k₀ at k
+pub all_passed : {ws : List ℕ} {at₀ : ℕ} {k₀ : Carried} {i at : ℕ} {k : Carried} {e : Bool} → Sofar ws at₀ k₀ e i at k → e ≡ true → Passed ws at₀ k₀ at k
 all_passed s f = let q = rw f at s.steps in record { told = s.told; steps = rw (at-end q) at q }
 
 module _ {ws o o' : List ℕ} {at₀ i at j at' p : ℕ} {k₀ k k' : Carried} {b e : Bool} (s : Sofar ws at₀ k₀ b i at k) (f : b ≡ false)

@@ -1,5 +1,5 @@
 -- The words of bytes, one by one. Assumes nothing.
-use Rattle.std.proofs.Common.{◌≡◌, ℕ, zero, suc, ◌+◌, ◌-◌, ◌*◌, ◌/◌, ◌<◌, ◌≤◌, List, [], ◌∷◌, ◌++◌, length, get_or, take, drop, set, sym, refl, ap, ◌∙◌, zero-add, arith, length-drop, length-take, take_at}
+use Rattle.std.proofs.Common.{◌≡◌, ℕ, zero, suc, ◌+◌, ◌-◌, ◌*◌, ◌/◌, ◌<◌, ◌≤◌, List, [], ◌∷◌, length, get_or, take, drop, set, sym, refl, ap, ◌∙◌, zero-add, arith, length-drop, length-take, take_at}
 use lib.Seq.{sets, sets-eq, take-length}
 use Rattle.words.proofs.Runs.{one_more}
 use Rattle.archives.specs.Printed.{word_of, words_of}

@@ -1,5 +1,6 @@
 // The archive program: raw words from standard input, low byte first, and a line for each item on standard output. Input comes in blocks of whole
-// words through a fixed buffer, and lines go out through another. What ends it but the end of the input is told on standard error.
+// words through a fixed buffer, and lines go out through another. What ends it but the end of the input is told on standard error. Input, output and
+// standard error are lent by the caller.
 #![tactic(auto)]
 
 ghost use Rattle.std.specs.Prelude.{◌≡◌, ◌+◌, ◌/◌, ◌<◌, ◌≤◌, true, false, length, take};
@@ -7,6 +8,8 @@ ghost use Rattle.archives.specs.Printed.{word_of, words_of, Upto, Passed};
 
 use archive_pieces::{Carried, Step, Told};
 use lines::Answer;
+use std::io;
+use std::io::Read;
 
 // How far the items of a piece were printed: words of the piece and bytes of the run, the position behind them, what is carried there, and whether
 // that is the piece's end.
@@ -35,46 +38,52 @@ struct Filled {
 }
 
 // Tells on standard error that the input ends in a tail, which stands at an offset.
-fn tell_cut(offset: u64) {
-    io::write_all(2, b"cut at ");
-    io::print_decimal(2, offset);
-    io::write_all(2, b": the last word has fewer than 4 bytes\n");
+fn tell_cut<E: Eprint>(rt: &E, offset: u64) {
+    let _ = eprintln!(rt; "cut at {offset}: the last word has fewer than 4 bytes");
+}
+
+// Tells on standard error what failed, and why.
+fn tell_failed<E: Eprint>(rt: &E, what: &str, why: io::Error) {
+    let _ = eprintln!(rt; "{what}: {why}");
 }
 
 // Writes lines, and tells where that fails.
-fn written(text: &[u8]) -> bool {
-    if io::write_all(1, text) {
-        return true;
+fn written<H: Print + Eprint>(rt: &H, text: &[u8]) -> bool {
+    match rt.write_all(text) {
+        Ok(()) => true,
+        Err(e) => {
+            tell_failed(rt, "standard output", e);
+            false
+        }
     }
-    os::fail(b"standard output");
-    false
 }
 
 // One read, which may end the input (no bytes) or fail, which is told.
-fn read_some(part: &mut [u8]) -> Filled
+fn read_some<R: Read, E: Eprint>(rt: &E, input: &mut R, part: &mut [u8]) -> Filled
     ensures { result.count ≤ length part.new }
 {
-    let got = libc::read(0, part);
-    if got < 0 {
-        os::fail(b"standard input");
-        return Filled {
-            count: 0,
-            failed: true,
-        };
-    }
-    Filled {
-        count: io::count(got, part),
-        failed: false,
+    match input.read(part) {
+        Ok(count) => Filled {
+            count,
+            failed: false,
+        },
+        Err(e) => {
+            tell_failed(rt, "standard input", e);
+            Filled {
+                count: 0,
+                failed: true,
+            }
+        }
     }
 }
 
 // Reads until the buffer is full, the input ends or a read fails.
-fn fill(buf: &mut [u8]) -> Filled
+fn fill<R: Read, E: Eprint>(rt: &E, input: &mut R, buf: &mut [u8]) -> Filled
     ensures { result.count ≤ length buf.new }
 {
     let mut done = 0;
     while done < buf.len() {
-        let f = read_some(&mut buf[done..]);
+        let f = read_some(rt, input, &mut buf[done..]);
         if f.count == 0 {
             return Filled {
                 count: done,
@@ -156,7 +165,7 @@ fn print(words: &[u32], at: u64, carried: Carried, out: &mut [u8]) -> Printed
 }
 
 // The lines of a piece's items, written: one write for each run of lines. It is over also where nothing more can be written.
-fn pass(words: &[u32], at: u64, carried: Carried, out: &mut [u8]) -> Next
+fn pass<H: Print + Eprint>(rt: &H, words: &[u32], at: u64, carried: Carried, out: &mut [u8]) -> Next
     requires { 320 ≤ length out.old }
     ensures { result.over ≡ false → Passed words.now at carried result.at result.carried }
 {
@@ -171,7 +180,7 @@ fn pass(words: &[u32], at: u64, carried: Carried, out: &mut [u8]) -> Next
         position = p.at;
         kept = p.carried;
         ended = p.ended;
-        if !written(&out[..n]) {
+        if !written(rt, &out[..n]) {
             return Next {
                 at: position,
                 carried: kept,
@@ -195,38 +204,46 @@ fn rest(carried: Carried, out: &mut [u8]) -> usize {
 }
 
 // What is left where the input ends: the line of a carried constant, and that of a tail of so many bytes.
-fn last(count: usize, at: u64, carried: Carried, out: &mut [u8]) {
+fn last<H: Print + Eprint>(rt: &H, count: usize, at: u64, carried: Carried, out: &mut [u8]) {
     let n = rest(carried, out);
     if count == 0 {
         if n <= out.len() {
-            written(&out[..n]);
+            written(rt, &out[..n]);
         }
         return;
     }
     let offset = at % 0x4000_0000_0000_0000 * 4;
     let m = lines::line(Answer::Cut(offset), out, n);
     if m <= out.len() {
-        written(&out[..m]);
+        written(rt, &out[..m]);
     }
-    tell_cut(offset);
+    tell_cut(rt, offset);
 }
 
 // A block of the input. Only the last one is not full, and only that one has a tail, which is cut where the input ended.
-fn block(buf: &mut [u8], words: &mut [u32], out: &mut [u8], at: u64, carried: Carried) -> Next
+fn block<R: Read, H: Print + Eprint>(
+    rt: &H,
+    input: &mut R,
+    buf: &mut [u8],
+    words: &mut [u32],
+    out: &mut [u8],
+    at: u64,
+    carried: Carried,
+) -> Next
     requires { (length buf.old / 4 ≤ length words.old) × (320 ≤ length out.old) }
     ensures { result.over ≡ false → Passed (words_of buf.new) at carried result.at result.carried }
 {
-    let f = fill(buf);
+    let f = fill(rt, input, buf);
     let n = f.count;
     let k = gather(&buf[..n], words);
-    let next = pass(&words[..k], at, carried, out);
+    let next = pass(rt, &words[..k], at, carried, out);
     if next.over {
         return next;
     }
     if n < buf.len() {
         let left = next.carried;
         if !f.failed {
-            last(n % 4, next.at, left, out);
+            last(rt, n % 4, next.at, left, out);
         }
         return Next {
             at: next.at,
@@ -237,31 +254,35 @@ fn block(buf: &mut [u8], words: &mut [u32], out: &mut [u8], at: u64, carried: Ca
     next
 }
 
-fn block_in(
+fn block_in<R: Read, H: Print + Eprint>(
+    rt: &H,
+    input: &mut R,
     buf: &mut [u8; 65536],
     words: &mut [u32; 16384],
     out: &mut [u8; 65536],
     next: Next,
 ) -> Next {
     let carried = next.carried;
-    block(buf, words, out, next.at, carried)
+    block(rt, input, buf, words, out, next.at, carried)
 }
 
-// Tells every item of the words on standard input on standard output. It is lent nothing and answers nothing; what it prints is compared.
-pub fn run_all()
+// Tells every item of the words on standard input on standard output. It is lent the host and answers nothing; what it prints is compared.
+pub fn run_all<H: Input + Print + Eprint>(rt: &H)
     ensures { Unit }
 {
-    let mut buf = io::large_buffer();
+    let mut input = rt.reader();
+    let mut buf = [0u8; 65536];
     let mut words = [0u32; 16384];
-    let mut out = io::large_buffer();
+    let mut out = [0u8; 65536];
     let mut next = Next {
         at: 0,
         carried: Carried::Nothing,
         over: false,
     };
-    let mut turns = u64::MAX;
-    while turns > 0 && !next.over {
-        next = block_in(&mut buf, &mut words, &mut out, next);
-        turns -= 1;
+    for _ in 0..u64::MAX {
+        next = block_in(rt, &mut input, &mut buf, &mut words, &mut out, next);
+        if next.over {
+            break;
+        }
     }
 }

@@ -1,0 +1,11 @@
+-- What the loops of `archives::print` keep. Assumes nothing.
+use Rattle.std.proofs.Common.{◌+◌, ◌-◌, ◌*◌, false, length}
+use Rattle.archive_pieces.proofs.Forward.{held}
+use Rattle.archives.specs.Printed.{Upto}
+use Rattle.archives.proofs.print.Given as goal
+
+abbrev pub invariant-loop-out : goal.invariant-loop-out
+invariant-loop-out l = Upto l.words l.at l.initial.kept l.initial.out false l.i l.position l.kept l.p l.out
+
+abbrev pub decreases-loop-out : goal.decreases-loop-out
+decreases-loop-out l = 2 * (length l.words - l.i) + held l.kept
