@@ -5,7 +5,7 @@ use mathlib.Core.List.{List}
 use Prim.Native.Nat.{ℕ, ◌+◌, ◌*◌, ◌^◌, ◌%◌}
 use native.Mathlib.Omega.{arith}
 use contract.Lifetimes.{Lfts}
-use denote.Ref.{Bor}
+use Rattle.std.proofs.Common.{MutBor}
 use Rattle.arm.specs.BitMasks.{esize}
 use Rattle.words.specs.Said.{Said, ok, no}
 use Rattle.words.specs.Place.{place_at, Aligned}
@@ -26,9 +26,9 @@ use Rattle.host_logical.proofs.Demands.{word_sane, fields_read, fields_apart}
 use Rattle.host_logical.proofs.vaimalofo_logical_fields.Reads as logical_fields
 use Rattle.host_logical.proofs.vaimalofo_logical_word.Reads as logical_word
 
-module _ (k : Lfts 1) (bytes bytes' : Bor (List ℕ)) (base-address position answer : ℕ) where
+module _ (k : Lfts 1) (bytes bytes' : MutBor (List ℕ)) (base_address position answer : ℕ) where
   abbrev at : Place
-  at = place_at base-address position
+  at = place_at base_address position
 
   abbrev l : List ℕ
   l = bytes.now
@@ -39,8 +39,8 @@ module _ (k : Lfts 1) (bytes bytes' : Bor (List ℕ)) (base-address position ans
   -- ---- the logical word: decoded by Arm, it is the operation on the low bits of the value
 
   module _ (operation value width rn rd : ℕ)
-      (p : logical_word.Post k (bytes, (base-address, (position, (operation, (value, (width, (rn, (rd, tt)))))))) answer
-      (bytes', (base-address, (position, (operation, (value, (width, (rn, (rd, tt))))))))) where
+      (p : logical_word.Post k (bytes, (base_address, (position, (operation, (value, (width, (rn, (rd, tt)))))))) answer
+      (bytes', (base_address, (position, (operation, (value, (width, (rn, (rd, tt))))))))) where
     abbrev said : Said (List ℕ)
     said = word_of operation width rn rd p.0
 

@@ -6,7 +6,7 @@ use Prim.Native.Nat.{ℕ, ◌+◌, ◌*◌, ◌/◌, ◌%◌, ◌^◌}
 use native.Mathlib.Nat.{mod-le}
 use native.Mathlib.Omega.{arith}
 use contract.Lifetimes.{Lfts}
-use denote.Ref.{Bor}
+use Rattle.std.proofs.Common.{MutBor}
 use lib.ListN.{get_or}
 use Rattle.arm.specs.BitMasks.{esize}
 use Rattle.words.specs.Said.{Said, ok, no}
@@ -32,7 +32,7 @@ mask_sane : (w n s r : ℕ) (a : Said ℕ) → Decoded w n s r a → Sane (words
 mask_sane w n s r (ok m) h = omega arith
 mask_sane w n s r (no k) h = ⊎_elim (λ a. (Width, sym a.0)) (λ b. (NoField, sym b.0)) h
 
-module _ (k : Lfts 1) (bytes bytes' : Bor (List ℕ)) (n s r width answer : ℕ)
+module _ (k : Lfts 1) (bytes bytes' : MutBor (List ℕ)) (n s r width answer : ℕ)
     (p : decode_logical.Post k (bytes, (n, (s, (r, (width, tt))))) answer (bytes', (n, (s, (r, (width, tt)))))) where
   -- the mask that a host finds in the bytes is what Arm decodes the fields to
   pub decode_logical_mask : refusal_in answer ≡ 0 → Decodes width n s r (mask_in answer bytes'.now)

@@ -15,7 +15,7 @@ use Rattle.host_logical.proofs.vaimalofo_decode_logical.Reads as decode_logical
 use Rattle.host_logical.proofs.vaimalofo_logical_word.Reads as logical_word
 
 pub logical_fields_determined : OneAnswer logical_fields.Post
-logical_fields_determined k a r s x y p q = one_from p q
+logical_fields_determined k a r s x y p q = one_from _ p q
 
 pub normalise_logical_determined : OneAnswer normalise_logical.Post
 normalise_logical_determined k a r s x y p q = p.2 ∙ ap (λ (z : Said LogicalImm). told (spelled z)) (normal_one _ _ _ _ p.0 q.0 p.1 q.1) ∙ sym q.2
@@ -25,4 +25,4 @@ decode_logical_determined k a r s x y p q =
     one_pair (p.2 ∙ ap (λ (z : Said ℕ). host_put a.0.now (place_at 0 0) (words_of_mask z)) (decoded_one _ _ _ _ p.0 q.0 p.1 q.1) ∙ sym q.2) refl
 
 pub logical_word_determined : OneWrite logical_word.Post (λ k x. x.0.now)
-logical_word_determined k a r s x y p q = one_pair (one_from p q) refl
+logical_word_determined k a r s x y p q = one_pair (one_from _ p q) refl

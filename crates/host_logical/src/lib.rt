@@ -23,8 +23,7 @@ fn spelled(f: LogicalImm) -> u64
 }
 
 // The fields that spell the low bits of a value, at width 32 or 64, with the element length: 1, 3.
-#[unsafe(no_mangle)]
-pub extern "C" fn vaimalofo_logical_fields(value: u64, width: u32) -> u64
+pub fn vaimalofo_logical_fields(value: u64, width: u32) -> u64
     ensures { ForFields width value (λ a. result ≡ told (spelled a)) }
 {
     match logical::encode_logical_imm(value, width) {
@@ -34,8 +33,7 @@ pub extern "C" fn vaimalofo_logical_fields(value: u64, width: u32) -> u64
 }
 
 // The same of fields in normal form, R reduced by the element length: 1, 3.
-#[unsafe(no_mangle)]
-pub extern "C" fn vaimalofo_normalise_logical(n: u32, s: u32, r: u32, width: u32) -> u64
+pub fn vaimalofo_normalise_logical(n: u32, s: u32, r: u32, width: u32) -> u64
     ensures { ForNormal width n s r (λ a. result ≡ told (spelled a)) }
 {
     match logical_decoder::normalise(n, s, r, width) {
@@ -52,14 +50,7 @@ fn mask_words(m: u64) -> Worded
 }
 
 // The mask that fields decode to, from the run's first byte on: 1, 3, 8.
-#[unsafe(no_mangle)]
-pub extern "C" fn vaimalofo_decode_logical(
-    bytes: &mut [u8],
-    n: u32,
-    s: u32,
-    r: u32,
-    width: u32,
-) -> u64
+pub fn vaimalofo_decode_logical(bytes: &mut [u8], n: u32, s: u32, r: u32, width: u32) -> u64
     ensures { ForMask width n s r (λ a. (result, bytes.new) ≡ host_put bytes.old (place_at 0 0) (words_of_mask a)) }
 {
     match logical_decoder::decode_logical_imm(n, s, r, width) {
@@ -69,8 +60,7 @@ pub extern "C" fn vaimalofo_decode_logical(
 }
 
 // The logical word of a value: 15, 7, 1, 2, 3, 8.
-#[unsafe(no_mangle)]
-pub extern "C" fn vaimalofo_logical_word(
+pub fn vaimalofo_logical_word(
     bytes: &mut [u8],
     base_address: u64,
     position: usize,

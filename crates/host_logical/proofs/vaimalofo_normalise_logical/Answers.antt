@@ -1,0 +1,13 @@
+-- The answer of `host_logical::vaimalofo_normalise_logical`. Assumes nothing.
+use mathlib.Core.Path.{refl}
+use native.Mathlib.Nat.{mod-le}
+use native.Mathlib.Omega.{arith}
+use Rattle.arm.specs.BitMasks.{esize}
+use Rattle.logical.proofs.Laws.{length_low}
+use Rattle.host_logical.proofs.vaimalofo_normalise_logical.Goals as goal
+
+pub spelled-requires : goal.spelled-requires
+spelled-requires c =
+    let a = c.args in
+    let h = c.in-Fields.ensures in
+    rw h.2 (h.1.n_bits, h.1.s_bits, omega (arith, mod-le a.r (esize a.n a.s), h.1.r_bits), length_low h.0 h.1 refl)
