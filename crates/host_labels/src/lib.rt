@@ -20,8 +20,7 @@ fn bound(b: Binding) -> u64
 }
 
 // A label is bound to a place: 15, 12, 13, 8.
-#[unsafe(no_mangle)]
-pub extern "C" fn vaimalofo_bind_label(
+pub fn vaimalofo_bind_label(
     labels: &mut [usize],
     words: &[u32],
     base_address: u64,
@@ -45,8 +44,7 @@ fn told(c: Counted) -> u64
 
 // A use of a label by the word at a place, at a format, is added to the `count` that wait in the sheet: 15, 7, 12, 8, 11, 6, 16, 14. The value is the
 // count after it.
-#[unsafe(no_mangle)]
-pub extern "C" fn vaimalofo_use_label(
+pub fn vaimalofo_use_label(
     uses: &mut [Use],
     count: usize,
     label: u32,
@@ -64,8 +62,7 @@ pub extern "C" fn vaimalofo_use_label(
 }
 
 // Each of the `count` uses that wait gets its word, and the count is then 0: 15, 14, then each use in the sheet's order 7, 12, 8, 11, 6, 16, 4, 5.
-#[unsafe(no_mangle)]
-pub extern "C" fn vaimalofo_finish_labels(
+pub fn vaimalofo_finish_labels(
     uses: &[Use],
     count: usize,
     labels: &[usize],
