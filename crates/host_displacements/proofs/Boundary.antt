@@ -6,7 +6,7 @@ use mathlib.Core.List.{List, [], ◌∷◌}
 use mathlib.Core.Option.{Option}
 use Prim.Native.Nat.{ℕ, ◌+◌, ◌*◌, ◌^◌, ◌%◌, ◌<◌}
 use contract.Lifetimes.{Lfts}
-use denote.Ref.{Bor}
+use Rattle.std.proofs.Common.{MutBor}
 use lib.IntN.{ℤ, pos}
 use Rattle.words.specs.Said.{Said, ok}
 use Rattle.words.specs.Place.{place_at, address_of, Aligned}
@@ -48,9 +48,9 @@ pub reads_back : (word format base : ℕ) (distance : ℤ) → disp_said format 
 reads_back word format base distance e k answer p =
     subst (Reads answer) (read_back format base distance word e) (distance_read word format answer p)
 
-module _ (k : Lfts 1) (bytes bytes' : Bor (List ℕ)) (base-address position answer : ℕ) where
+module _ (k : Lfts 1) (bytes bytes' : MutBor (List ℕ)) (base_address position answer : ℕ) where
   abbrev at : Place
-  at = place_at base-address position
+  at = place_at base_address position
 
   abbrev l : List ℕ
   l = bytes.now
@@ -61,7 +61,7 @@ module _ (k : Lfts 1) (bytes bytes' : Bor (List ℕ)) (base-address position ans
   -- ---- displacements: what was written, the reader reads
 
   module _ (format base : ℕ) (distance : ℤ)
-      (p : displacement.Post k (bytes, (base-address, (position, (format, (base, (distance, tt)))))) answer (bytes', (base-address, (position, (format, (base, (distance, tt))))))) where
+      (p : displacement.Post k (bytes, (base_address, (position, (format, (base, (distance, tt)))))) answer (bytes', (base_address, (position, (format, (base, (distance, tt))))))) where
     pub displacement_read : refusal_in answer ≡ 0 → Read (word_at answer position l') format distance
     displacement_read z =
         reads_back (word_at answer position l') format base distance
@@ -80,7 +80,7 @@ module _ (k : Lfts 1) (bytes bytes' : Bor (List ℕ)) (base-address position ans
     displacement_15 = fifteen l at answer l' (disp_said format base distance) p
 
   module _ (format base target : ℕ)
-      (p : displacement_to.Post k (bytes, (base-address, (position, (format, (base, (target, tt)))))) answer (bytes', (base-address, (position, (format, (base, (target, tt))))))) where
+      (p : displacement_to.Post k (bytes, (base_address, (position, (format, (base, (target, tt)))))) answer (bytes', (base_address, (position, (format, (base, (target, tt))))))) where
     abbrev address : ℕ
     address = address_of at
 
@@ -124,7 +124,7 @@ module _ (k : Lfts 1) (bytes bytes' : Bor (List ℕ)) (base-address position ans
     displacement_to_15 = fifteen_to l at answer l' low (disp_said format base apart) p
 
     -- "At base 0 no word changes, where the address given to the target entry was four times the position": what was said before of that address
-    pub displacement_to_zero : base-address ≡ 0 → 4 * position < 2 ^ 64
+    pub displacement_to_zero : base_address ≡ 0 → 4 * position < 2 ^ 64
         → (answer, l') ≡ host_to_of (place_at 0 position) (carried low (based_at (record { 0 = 0 }) (put_bytes_at l position (target_said format base target (4 * position)))))
     displacement_to_zero z h =
         p

@@ -13,8 +13,7 @@ use forms::FormAnswer;
 use words::{Address, ByteDistance, Opc};
 
 // A distance in bytes into a base word at a format: 15, 7, 11, 6, 4, 5, 8.
-#[unsafe(no_mangle)]
-pub extern "C" fn vaimalofo_displacement(
+pub fn vaimalofo_displacement(
     bytes: &mut [u8],
     base_address: u64,
     position: usize,
@@ -34,8 +33,7 @@ pub extern "C" fn vaimalofo_displacement(
 
 // The same from a target; the address of the instruction is that of its word: 15, 7, 11, 6, 4, 5, 8. An ADRP never gives 4, and its answer has the
 // target's low 12 bits from bit 16 on.
-#[unsafe(no_mangle)]
-pub extern "C" fn vaimalofo_displacement_to(
+pub fn vaimalofo_displacement_to(
     bytes: &mut [u8],
     base_address: u64,
     position: usize,
@@ -51,8 +49,7 @@ pub extern "C" fn vaimalofo_displacement_to(
 }
 
 // Whether a word is an instruction of a format, 1 or 0: 7.
-#[unsafe(no_mangle)]
-pub extern "C" fn vaimalofo_has_form(format: u32, word: u32) -> u64
+pub fn vaimalofo_has_form(format: u32, word: u32) -> u64
     ensures { result ≡ told (yes_no (form_said format word)) }
 {
     match forms::has_form(format, Opc(word)) {
@@ -62,8 +59,7 @@ pub extern "C" fn vaimalofo_has_form(format: u32, word: u32) -> u64
 }
 
 // The distance in bytes that a word spells at a format: 7.
-#[unsafe(no_mangle)]
-pub extern "C" fn vaimalofo_read_displacement(word: u32, format: u32) -> u64
+pub fn vaimalofo_read_displacement(word: u32, format: u32) -> u64
     ensures { result ≡ told (read_said word format) }
 {
     match displacements::read_disp(Opc(word), format) {
