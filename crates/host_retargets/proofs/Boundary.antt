@@ -7,7 +7,7 @@ use mathlib.Core.Option.{Option}
 use Prim.Native.Nat.{ℕ, ◌+◌, ◌%◌, ◌^◌, ◌<◌}
 use borrow.Author.Tests.{ltb-true, ltb-false}
 use contract.Lifetimes.{Lfts}
-use denote.Ref.{Bor}
+use Rattle.std.proofs.Common.{MutBor}
 use lib.Dec.{ltb}
 use lib.IntN.{ℤ}
 use lib.ListN.{length, get_or}
@@ -50,9 +50,9 @@ module _ (ws : List ℕ) (p n : ℕ) (d : ℤ) where
           rw (word_there ws p (ltb-true p (length ws) f), the_same n (get_or ws p 0) d (ltb-false 5 n e)) (displacement_sane n (clear_in (form_of n) (get_or ws p 0)) d)
       go false false e f = rw (word_missing ws p (ltb-false p (length ws) f), again_missing n d 8 (ltb-false 5 n e)) (NoRoom, refl)
 
-module _ (k : Lfts 1) (bytes bytes' : Bor (List ℕ)) (base-address position answer : ℕ) where
+module _ (k : Lfts 1) (bytes bytes' : MutBor (List ℕ)) (base_address position answer : ℕ) where
   abbrev at : Place
-  at = place_at base-address position
+  at = place_at base_address position
 
   abbrev ws : List ℕ
   ws = words_in bytes.now
@@ -65,7 +65,7 @@ module _ (k : Lfts 1) (bytes bytes' : Bor (List ℕ)) (base-address position ans
   new = number.word_at answer position bytes'.now
 
   module _ (format : ℕ) (distance : ℤ)
-      (p : retarget.Post k (bytes, (base-address, (position, (format, (distance, tt))))) answer (bytes', (base-address, (position, (format, (distance, tt)))))) where
+      (p : retarget.Post k (bytes, (base_address, (position, (format, (distance, tt))))) answer (bytes', (base_address, (position, (format, (distance, tt)))))) where
     abbrev said : Said (List ℕ)
     said = again_said format (word_at ws position) distance
 
@@ -90,7 +90,7 @@ module _ (k : Lfts 1) (bytes bytes' : Bor (List ℕ)) (base-address position ans
     retarget_15 = fifteen bytes.now at answer bytes'.now said p
 
   module _ (format target : ℕ)
-      (p : retarget_to.Post k (bytes, (base-address, (position, (format, (target, tt))))) answer (bytes', (base-address, (position, (format, (target, tt)))))) where
+      (p : retarget_to.Post k (bytes, (base_address, (position, (format, (target, tt))))) answer (bytes', (base_address, (position, (format, (target, tt)))))) where
     abbrev address : ℕ
     address = address_of at
 

@@ -44,8 +44,7 @@ fn found(bytes: &[u8], position: usize) -> Standing
 }
 
 // The word at a place with another distance: 15, 7, 8, 11, 4, 5.
-#[unsafe(no_mangle)]
-pub extern "C" fn vaimalofo_retarget(
+pub fn vaimalofo_retarget(
     bytes: &mut [u8],
     base_address: u64,
     position: usize,
@@ -61,8 +60,7 @@ pub extern "C" fn vaimalofo_retarget(
 
 // The same from a target; the address of the instruction is that of its word: 15, 7, 8, 11, 4, 5. An ADRP never gives 4, and its answer has the
 // target's low 12 bits from bit 16 on.
-#[unsafe(no_mangle)]
-pub extern "C" fn vaimalofo_retarget_to(
+pub fn vaimalofo_retarget_to(
     bytes: &mut [u8],
     base_address: u64,
     position: usize,
