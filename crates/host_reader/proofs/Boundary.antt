@@ -8,7 +8,7 @@ use Prim.Native.Nat.{ℕ, ◌+◌, ◌≤◌, ◌<◌}
 use native.Mathlib.Omega.{arith}
 use borrow.Author.Tests.{lt-ltb, le-ltb, ltb-true, ltb-false}
 use contract.Lifetimes.{Lfts}
-use denote.Ref.{Bor}
+use Rattle.std.proofs.Common.{Bor, MutBor}
 use lib.Dec.{ltb}
 use lib.IntN.{pos}
 use lib.ListN.{length, take, drop, get_or}
@@ -32,7 +32,7 @@ use Rattle.host_reader.proofs.vaimalofo_read.Reads as read
 apart : {n m : ℕ} {l l' : List ℕ} → ◌≡◌ {A = ℕ × List ℕ} (n, l) (m, l') → (n ≡ m) × (l ≡ l')
 apart e = (ap (λ (z : ℕ × List ℕ). z.0) e, ap (λ (z : ℕ × List ℕ). z.1) e)
 
-module _ (k : Lfts 2) (words words' numbers numbers' : Bor (List ℕ)) (position answer : ℕ)
+module _ (k : Lfts 2) (words words' : Bor (List ℕ)) (numbers numbers' : MutBor (List ℕ)) (position answer : ℕ)
     (p : read.Post k (words, (position, (numbers, tt))) answer (words', (position, (numbers', tt)))) where
   abbrev ws : List ℕ
   ws = words.now

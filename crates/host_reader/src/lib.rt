@@ -92,8 +92,7 @@ fn single(numbers: &mut [u64], item: Item, s: Span) -> u64
 }
 
 // What stands at a position of a run of words, kind 0 being its end: 8.
-#[unsafe(no_mangle)]
-pub extern "C" fn vaimalofo_read(words: &[u32], position: usize, numbers: &mut [u64]) -> u64
+pub fn vaimalofo_read(words: &[u32], position: usize, numbers: &mut [u64]) -> u64
     ensures { (result, numbers.new) ≡ host_read words.now position numbers.old }
 {
     if numbers.len() < 11 {

@@ -8,8 +8,7 @@ ghost use Rattle.host_rewrites.specs.Number.{host_rewrite};
 use words::{Opc, Worded};
 
 // A word written again from its own fields.
-#[unsafe(no_mangle)]
-pub extern "C" fn vaimalofo_rewrite(word: u32) -> u64
+pub fn vaimalofo_rewrite(word: u32) -> u64
     ensures { result ≡ host_rewrite word }
 {
     match item_words::write_item(items::read_word(Opc(word))) {
