@@ -31,24 +31,21 @@ fn imm8_of(a: Imm8Answer) -> u64
 }
 
 // How many of the four halfwords of a value are zero, 0 to 4: never refused.
-#[unsafe(no_mangle)]
-pub extern "C" fn vaimalofo_count_zero_half_words(value: u64) -> u64
+pub fn vaimalofo_count_zero_half_words(value: u64) -> u64
     ensures { result ≡ told (Said.ok (pos (count 0 value))) }
 {
     value_of(halfwords::count_zero_half_words_64(value) as u32)
 }
 
 // The 8-bit float of the low bits of a value, at width 16, 32 or 64: 1, 3.
-#[unsafe(no_mangle)]
-pub extern "C" fn vaimalofo_float_imm8(value: u64, width: u32) -> u64
+pub fn vaimalofo_float_imm8(value: u64, width: u32) -> u64
     ensures { Tells (FloatSays width value) natural result }
 {
     imm8_of(immediates::encode_fp_to_imm8(value, width))
 }
 
 // Whether the low bits of a value have an 8-bit float, at width 16, 32 or 64, 1 or 0: 1.
-#[unsafe(no_mangle)]
-pub extern "C" fn vaimalofo_is_float_imm8(value: u64, width: u32) -> u64
+pub fn vaimalofo_is_float_imm8(value: u64, width: u32) -> u64
     ensures { Tells (TestSays width value) yes_no result }
 {
     match width {
@@ -60,32 +57,28 @@ pub extern "C" fn vaimalofo_is_float_imm8(value: u64, width: u32) -> u64
 }
 
 // The 8 bits of a value whose bytes are each 00 or FF, byte i as bit i: 3.
-#[unsafe(no_mangle)]
-pub extern "C" fn vaimalofo_byte_mask_imm8(value: u64) -> u64
+pub fn vaimalofo_byte_mask_imm8(value: u64) -> u64
     ensures { Tells (MaskSays value) natural result }
 {
     imm8_of(immediates::encode_imm64_byte_mask_to_imm8(value))
 }
 
 // Whether a number is a general register's, below 31 or the high one, 1 or 0: never refused.
-#[unsafe(no_mangle)]
-pub extern "C" fn vaimalofo_check_gp_id(id: u32, high: u32) -> u64
+pub fn vaimalofo_check_gp_id(id: u32, high: u32) -> u64
     ensures { result ≡ told (yes_no (Said.ok (gp_ok id high))) }
 {
     host::yes(registers::check_gp_id(id, high))
 }
 
 // Whether a number is a vector register's, below 32, 1 or 0: never refused.
-#[unsafe(no_mangle)]
-pub extern "C" fn vaimalofo_check_vec_id(id: u32) -> u64
+pub fn vaimalofo_check_vec_id(id: u32) -> u64
     ensures { result ≡ told (yes_no (Said.ok (vec_ok id))) }
 {
     host::yes(registers::check_vec_id(id))
 }
 
 // The condition field of a condition code, 2 less modulo 16, for every number: never refused.
-#[unsafe(no_mangle)]
-pub extern "C" fn vaimalofo_cond_field(cond: u32) -> u64
+pub fn vaimalofo_cond_field(cond: u32) -> u64
     ensures { result ≡ told (Said.ok (pos (cond_field cond))) }
 {
     value_of(registers::cond_code_to_opcode_field(cond))
