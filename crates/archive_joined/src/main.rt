@@ -2,5 +2,5 @@
 #![tactic(auto)]
 
 fn main(rt: HostRuntime) {
-    archives::run_all(&rt);
+    archives::run_all(&rt, &mut rt.stdin());
 }

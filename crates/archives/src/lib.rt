@@ -1,4 +1,4 @@
-// The archive program: raw words from standard input, low byte first, and a line for each item on standard output. Input comes in blocks of whole
+// The archive program: raw words from an input, low byte first, and a line for each item on standard output. Input comes in blocks of whole
 // words through a fixed buffer, and lines go out through another. What ends it but the end of the input is told on standard error. Input, output and
 // standard error are lent by the caller.
 #![tactic(auto)]
@@ -266,11 +266,10 @@ fn block_in<R: Read, H: Print + Eprint>(
     block(rt, input, buf, words, out, next.at, carried)
 }
 
-// Tells every item of the words on standard input on standard output. It is lent the host and answers nothing; what it prints is compared.
-pub fn run_all<H: Input + Print + Eprint>(rt: &H)
+// Tells every item of the input's words on standard output. It is lent the host and the input and answers nothing; what it prints is compared.
+pub fn run_all<R: Read, H: Print + Eprint>(rt: &H, input: &mut R)
     ensures { Unit }
 {
-    let mut input = rt.reader();
     let mut buf = [0u8; 65536];
     let mut words = [0u32; 16384];
     let mut out = [0u8; 65536];
@@ -280,7 +279,7 @@ pub fn run_all<H: Input + Print + Eprint>(rt: &H)
         over: false,
     };
     for _ in 0..u64::MAX {
-        next = block_in(rt, &mut input, &mut buf, &mut words, &mut out, next);
+        next = block_in(rt, input, &mut buf, &mut words, &mut out, next);
         if next.over {
             break;
         }
