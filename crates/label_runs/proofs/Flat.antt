@@ -6,7 +6,7 @@ use Prim.Native.Nat.{ℕ, zero, suc, ◌+◌, ◌<◌, ◌≤◌, zero-le, min}
 use native.Mathlib.Nat.{not-suc-le-zero}
 use native.Mathlib.Numerals.{add-one}
 use native.Mathlib.Omega.{arith}
-use borrow.Author.Tests.{eq-eqb, ne_eqb}
+use borrow.Author.Tests.{eq-eqb, ne_eqb, eqb-true, eqb-false}
 use lib.Dec.{eqb}
 use lib.ListN.{length, get_or, set, take, drop, drop_of_length-le}
 use lib.Seq.{drop-cons, get_or-take, length-take-le}
@@ -238,3 +238,11 @@ module _ (at : Place) (ls ws : List ℕ) (us : List Use) (n there early : ℕ) (
           ∙ ap (with_words (counted_of 0 r)) ez
           ∙ counted_kept 0 r ws (filled at ls ws (take n us)) y (subst Coded (sym er) (check_coded at ls ws [] (take n us)))
           ∙ ap (λ (k : ℕ). answer k 0 ws (filled at ls ws (take n us))) number_is
+
+      -- both ways: where nothing refuses the run is filled, else it is as it was
+      pub finish_ends : (zs : List ℕ) → (r ≡ 0 → zs ≡ filled at ls ws (take n us)) → ((r ≡ 0 → ⊥) → zs ≡ ws) → with_words x zs ≡ finish_of at ls ws us n
+      finish_ends zs f g = go (eqb r 0) refl
+        where
+          go : (t : Bool) → eqb r 0 ≡ t → with_words x zs ≡ finish_of at ls ws us n
+          go true h = let e = eqb-true r 0 h in finish_done e zs (f e)
+          go false h = let e = eqb-false r 0 h in finish_kept e zs (g e)

@@ -1,9 +1,9 @@
 -- What `label_runs::finish_flat` makes of the numbers that the functions which it calls answer. Assumes nothing.
-use Rattle.std.proofs.Common.{sym, ◌∙◌}
+use Rattle.std.proofs.Common.{arith}
+use Rattle.std.proofs.lemmas.Grind.{common_steps}
 use Rattle.label_runs.specs.Flat.{uses_of}
-use Rattle.label_runs.proofs.Flat.{finish_early, finish_there, finish_done, finish_kept}
+use Rattle.label_runs.proofs.Flat.{finish_early, finish_there, finish_ends}
 use Rattle.label_runs.proofs.finish_flat.Goals as goal
-use Rattle.label_runs.proofs.finish_flat.Goals.{then-r-eq0, else-r-eq0}
 
 pub check-r-requires : goal.check-r-requires
 check-r-requires c =
@@ -17,7 +17,7 @@ write-requires c =
     let there =
     finish_there a.at a.labels.now a.words.now (uses_of a.marks.now a.ats.now a.formats.now) a.n c.room.result c.may_finish-early.result
     c.room.ensures c.may_finish-early.ensures c.if-early-ne0.false in
-    (there, sym c.check-r.ensures ∙ c.if-r-eq0.true)
+    (there, cc)
 
 pub returns-then-early-ne0 : goal.returns-then-early-ne0
 returns-then-early-ne0 c =
@@ -29,9 +29,5 @@ pub returns : goal.returns
 returns c =
     let a = c.args in
     let us = uses_of a.marks.now a.ats.now a.formats.now in
-    elim c.if-r-eq0.branch [
-      | then-r-eq0 w ↦ finish_done a.at a.labels.now a.words.now us a.n c.room.result c.may_finish-early.result c.room.ensures c.may_finish-early.ensures
-          c.if-early-ne0.false c.check-r.result c.check-r.ensures _ c.answered-2.ensures w.if-r-eq0.true _ (w.words-is ∙ w.write.ensures)
-      | else-r-eq0 w ↦ finish_kept a.at a.labels.now a.words.now us a.n c.room.result c.may_finish-early.result c.room.ensures c.may_finish-early.ensures
-          c.if-early-ne0.false c.check-r.result c.check-r.ensures _ c.answered-2.ensures w.if-r-eq0.false _ w.words-is
-    ]
+    finish_ends a.at a.labels.now a.words.now us a.n c.room.result c.may_finish-early.result c.room.ensures c.may_finish-early.ensures
+    c.if-early-ne0.false c.check-r.result c.check-r.ensures _ c.answered-2.ensures _ (λ z. grind (arith, common_steps)) (λ z. grind (arith, common_steps))
