@@ -1,7 +1,6 @@
 -- What `host_retargets::vaimalofo_retarget` puts is the word that is asked for. Assumes nothing.
-use Rattle.std.proofs.Common.{◌≡◌, ℕ, ap, ◌∙◌, to_z-of_z}
+use Rattle.std.proofs.Common.{ℕ, ℤ, ap, ◌∙◌, to_z-of_z}
 use Rattle.words.specs.Said.{Said}
-use Rattle.words.specs.Answer.{made}
 use Rattle.words.specs.Listed.{listed, packed}
 use Rattle.words.specs.Place.{place_at}
 use Rattle.words.proofs.Answers.{listed_packed}
@@ -17,7 +16,7 @@ returns c =
     let n = a.format in
     let d = a.distance in
     let x = word_at (words_in a.bytes.now) a.position in
-    let word : made c.retarget_word-word.result ≡ packed (again_said n (standing_said c.found-there.result) d) = rw (to_z-of_z c.ranges.distance) at c.retarget_word-word.ensures in
+    let word = c.retarget_word-word.ensures ∙ ap (λ (k : ℤ). packed (again_said n (standing_said c.found-there.result) k)) (to_z-of_z c.ranges.distance) in
     let e = ap listed word
     ∙ ap (λ (y : Said ℕ). listed (packed (again_said n y d))) c.found-there.ensures
     ∙ listed_packed (again_said n x d) (again_short n x d) in
