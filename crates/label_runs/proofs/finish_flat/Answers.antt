@@ -17,7 +17,7 @@ write-requires c =
     let there =
     finish_there a.at a.labels.now a.words.now (uses_of a.marks.now a.ats.now a.formats.now) a.n c.room.result c.may_finish-early.result
     c.room.ensures c.may_finish-early.ensures c.if-early-ne0.false in
-    (there, cc)
+    (there, omega arith)
 
 pub returns-then-early-ne0 : goal.returns-then-early-ne0
 returns-then-early-ne0 c =
