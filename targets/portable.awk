@@ -1,13 +1,13 @@
 # Fails where a module, as LLVM prints it, has a line that is not known to mean the same for every target that a library is made for, and prints the first
 # such lines. Known are: numbers of 1 to 64 bits and pointers, of which the null one is address 0, memory as bytes whose alignment is said, addresses
-# counted in bytes, two numbers of 64 bits that a function within gives back at once, LLVM's functions below, and functions that cross to C with pointers
-# and numbers of 32 and 64 bits alone: smaller ones are extended by the caller on macOS, and by nobody on Linux. Of their arguments eight go in registers; a
-# ninth that lies alone on the stack, or several there of 64 bits, have the same places everywhere, but several of 32 bits macOS would pack more closely
-# than Linux.
+# counted in bytes, two numbers of 8 or of 64 bits that lie beside one another and that a function within gives back at once, LLVM's functions below, and
+# functions that cross to C with pointers and numbers of 32 and 64 bits alone: smaller ones are extended by the caller on macOS, and by nobody on Linux. Of
+# their arguments eight go in registers; a ninth that lies alone on the stack, or several there of 64 bits, have the same places everywhere, but several
+# of 32 bits macOS would pack more closely than Linux.
 BEGIN {
     type = "(i1|i8|i16|i32|i64|ptr)"
     value = "(%|-?[0-9]+|true|false|null)"
-    pair = "\\{ i64, i64 \\}"
+    pair = "\\{ (i8, i8|i64, i64) \\}"
     number = "[a-z]+( nuw| nsw| exact)* " type " " value ", " value
     memory = "(alloca (" type "|\\[[0-9]+ x i8\\])|load (" type "|" pair "), ptr %), align [0-9]+|extractvalue " pair " %, [01]"
     address = "getelementptr( inbounds)?( nuw)? i8, ptr %, i64 " value
