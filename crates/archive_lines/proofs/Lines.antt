@@ -1,20 +1,23 @@
 -- The cases of `line_at`, how long a line is, and how many words would do. Assumes nothing.
-use mathlib.Core.Path.{◌≡◌, refl, sym, ap, ◌∙◌}
+use mathlib.Core.Path.{◌≡◌, sym, ap, ◌∙◌}
 use mathlib.Core.Bool.{Bool, true, false, cond}
 use mathlib.Core.List.{List, [], ◌∷◌, ◌++◌}
-use Prim.Native.Nat.{ℕ, ◌+◌, ◌-◌, ◌^◌, ◌≤◌, ◌<◌}
+use Prim.Native.Nat.{ℕ, suc, ◌+◌, ◌-◌, ◌^◌, ◌≤◌, ◌<◌}
 use native.Mathlib.Omega.{arith}
-use borrow.Author.Tests.{le-leb, lt-leb}
+use borrow.Author.Tests.{le-leb, lt-leb, lt-ltb, le-ltb}
 use lib.Dec.{eqb, ltb}
 use lib.ListN.{length}
 use lib.Seq.{sets}
 use mir.Syntax.{w64}
-use mir.Val.{of_z}
+use mir.Val.{to_z, of_z}
+use lib.IntN.{ℤ, pos, negsuc, nat_abs}
+use mir.Facts.{to_z-of_z}
+use mir.Val.{SFits}
+use lib.Signed.{mag}
+use Rattle.std.specs.Int.{is_negative}
 use Rattle.words.specs.Said.{Said, ok, no}
 use Rattle.words.specs.Listed.{packed}
-use Rattle.words.specs.Answer.{made}
 use Rattle.words.specs.declared.Words.{Words}
-use Rattle.words.specs.declared.Worded.{Worded}
 use Rattle.lines.specs.Text.{line_end}
 use Rattle.lines.specs.Parts.{Part, text, number, bytes_of_all, most_of, most_of_all, parts_at}
 use Rattle.lines.proofs.Parts.{parts_fit}
@@ -26,20 +29,49 @@ use Rattle.archive_pieces.specs.declared.Told.{Told}
 use Rattle.archive_pieces.specs.declared.Told.TheVariants.{Joined, Single}
 use Rattle.archive_lines.specs.Texts.{could_text, and_text, orr_text, eor_text, ands_text, not_normal_text, distance_text, minus_text}
 use Rattle.archive_lines.specs.Lines.{fewest_in, fewest_of, could_parts, operation_text, distance_parts, item_parts, body_parts, parts_of, line_at}
+use Rattle.words.specs.Answer.{said}
+use Rattle.words.proofs.Answers.{not_both}
+use Rattle.std.specs.Prelude.{Result, Ok, Err, MatchResult}
+use Rattle.words.specs.declared.Refusal.{Refusal}
 
 -- ---- how many words would do
 
-abbrev count_in : ℕ → Said Words → ℕ
-count_in n (ok w) = w.count
-count_in n (no r) = n
+packed_count : (m : ℕ) (a : Result Words Refusal) (s : Said (List ℕ)) {n : ℕ} → said a ≡ packed s → MatchResult a (λ w. n ≡ w.count) (λ r. n ≡ m) → n ≡ fewest_in m s
+packed_count m (Ok w) (ok ws) e h = h ∙ ap (λ (v : Words). v.count) (out e)
+  where
+    out : {v u : Words} → ok v ≡ ok u → v ≡ u
+    out e = cc
+packed_count m (Ok w) (no r) e h = absurd (not_both e)
+packed_count m (Err r) (ok ws) e h = absurd (not_both (sym e))
+packed_count m (Err r) (no k) e h = h
 
-packed_count : (n : ℕ) (s : Said (List ℕ)) → count_in n (packed s) ≡ fewest_in n s
-packed_count n (ok ws) = refl
-packed_count n (no r) = refl
-
-pub fewest_is : {a x : Worded} (c : Constant) → made a ≡ packed (mov_said c.value c.rd) → a ≡ x → count_in c.count (made x) ≡ fewest_of c
+pub fewest_is : (c : Constant) (a : Result Words Refusal) {n : ℕ} {P : Words → Type 0} {Q : Refusal → Type 0} → said a ≡ packed (mov_said c.value c.rd)
+    → MatchResult a P Q → ((w : Words) → P w → n ≡ w.count) → ((r : Refusal) → Q r → n ≡ c.count) → n ≡ fewest_of c
 unfolding fewest_of
-fewest_is c e q = ap (λ (y : Worded). count_in c.count (made y)) (sym q) ∙ ap (count_in c.count) e ∙ packed_count c.count (mov_said c.value c.rd)
+fewest_is c (Ok w) e h p q = packed_count c.count (Ok w) (mov_said c.value c.rd) e (p w h)
+fewest_is c (Err r) e h p q = packed_count c.count (Err r) (mov_said c.value c.rd) e (q r h)
+
+-- ---- a signed number by its 64 bits, and as its size and its sign
+
+never : {A : Type 0} → true ≡ false → A
+never e = let z : ◌≡◌ {A = ℕ} 0 1 = cc in absurd (omega arith)
+
+module _ (z : ℤ) (f : SFits w64 z) {n : ℕ} (size : n ≡ nat_abs (to_z w64 (of_z w64 z))) where
+  pub negative_parts : is_negative (to_z w64 (of_z w64 z)) ≡ true → (text minus_text ∷ number n ∷ []) ≡ distance_parts (of_z w64 z)
+  negative_parts s = go z f.sfits (rw (to_z-of_z {w = w64} f) at size) (rw (to_z-of_z {w = w64} f) at s)
+    where
+      go : (z : ℤ) → mag z < 2 ^ 63 → n ≡ nat_abs z → is_negative z ≡ true → (text minus_text ∷ number n ∷ []) ≡ distance_parts (of_z w64 z)
+      go (pos m) h e s = never (sym s ∙ le-ltb m 0 (omega arith))
+      go (negsuc k) h e s =
+          let m : n ≡ 2 ^ 64 - (2 ^ 64 - suc k) = omega arith in
+          rw (le-ltb (2 ^ 64 - suc k) (2 ^ 63) (omega arith)) (ap (λ (m : ℕ). text minus_text ∷ number m ∷ []) m)
+
+  pub positive_parts : is_negative (to_z w64 (of_z w64 z)) ≡ false → (text distance_text ∷ number n ∷ []) ≡ distance_parts (of_z w64 z)
+  positive_parts s = go z f.sfits (rw (to_z-of_z {w = w64} f) at size) (rw (to_z-of_z {w = w64} f) at s)
+    where
+      go : (z : ℤ) → mag z < 2 ^ 63 → n ≡ nat_abs z → is_negative z ≡ false → (text distance_text ∷ number n ∷ []) ≡ distance_parts (of_z w64 z)
+      go (pos m) h e s = rw (lt-ltb m (2 ^ 63) h) (ap (λ (m : ℕ). text distance_text ∷ number m ∷ []) e)
+      go (negsuc k) h e s = never s
 
 -- ---- no line is longer than the room that is asked for
 

@@ -3,13 +3,15 @@
 
 ghost use Rattle.std.specs.Prelude.{◌≡◌, [], ◌∷◌, ◌++◌, ◌+◌, ◌/◌, ◌%◌, ◌^◌};
 ghost use Rattle.lines.specs.Parts.{text, number, parts_at};
-ghost use Rattle.archive_lines.specs.Lines.{size_of, fewest_of, value_parts, constant_parts, movk_parts, operation_parts, fields_parts, logical_parts, displacement_parts, item_parts, body_parts, parts_of, line_at};
+ghost use Rattle.archive_lines.specs.Lines.{size_of, fewest_of, value_parts, constant_parts, movk_parts, operation_text, fields_parts, logical_parts, displacement_parts, item_parts, body_parts, parts_of, line_at};
 
 use archive_pieces::Told;
 use items::{Displacement, Item, LogicalWord};
 use reader::Constant;
 use wide_moves::WideMove;
-use words::Worded;
+
+// No line has more bytes.
+const LONGEST_LINE: usize = 320;
 
 // A text and a number behind it.
 fn put_field(out: &mut [u8], at: usize, name: &[u8], n: u64) -> usize
@@ -39,76 +41,71 @@ fn size_of(sf: u32) -> u64
 fn fewest(c: Constant) -> usize
     ensures { result ≡ fewest_of c }
 {
-    match moves::mov_words(c.value, c.rd) {
-        Worded::Made(w) => w.count,
-        Worded::Not(_) => c.count,
-    }
+    moves::mov_words(c.value, c.rd).map_or(c.count, |w| w.count)
 }
 
 // A constant, and whether fewer words would do.
 fn put_constant(out: &mut [u8], at: usize, c: Constant) -> usize
     ensures { (result, out.new) ≡ parts_at (at, out.old) (constant_parts c) }
 {
-    let p = put_field(out, at, b" constant register ", c.rd as u64);
+    let p = put_field(out, at, b" constant register ", u64::from(c.rd));
     let q = put_field(out, p, b" size ", size_of(c.sf));
     let s = put_value(out, q, c.value);
     let t = put_field(out, s, b" words ", c.count as u64);
     let n = fewest(c);
     if n < c.count {
-        return put_field(out, t, b" could be ", n as u64);
+        put_field(out, t, b" could be ", n as u64)
+    } else {
+        t
     }
-    t
 }
 
 // A MOVK that belongs to no constant.
 fn put_movk(out: &mut [u8], at: usize, m: WideMove) -> usize
     ensures { (result, out.new) ≡ parts_at (at, out.old) (movk_parts m) }
 {
-    let p = put_field(out, at, b" movk register ", m.rd as u64);
+    let p = put_field(out, at, b" movk register ", u64::from(m.rd));
     let q = put_field(out, p, b" size ", size_of(m.sf));
     let s = lines::text(out, q, b" halfword ");
     let t = lines::word(out, s, m.imm16);
-    put_field(out, t, b" place ", m.hw as u64)
+    put_field(out, t, b" place ", u64::from(m.hw))
 }
 
 // The name of a logical operation.
-fn put_operation(out: &mut [u8], at: usize, operation: u32) -> usize
-    ensures { (result, out.new) ≡ parts_at (at, out.old) (operation_parts operation) }
+fn name_of(operation: u32) -> &'static [u8]
+    ensures { result.now ≡ operation_text operation }
 {
-    if operation == 0 {
-        return lines::text(out, at, b" logical and");
+    match operation {
+        0 => b" logical and",
+        1 => b" logical orr",
+        2 => b" logical eor",
+        _ => b" logical ands",
     }
-    if operation == 1 {
-        return lines::text(out, at, b" logical orr");
-    }
-    if operation == 2 {
-        return lines::text(out, at, b" logical eor");
-    }
-    lines::text(out, at, b" logical ands")
 }
 
 // The fields of a logical immediate.
 fn put_fields(out: &mut [u8], at: usize, l: LogicalWord) -> usize
     ensures { (result, out.new) ≡ parts_at (at, out.old) (fields_parts l) }
 {
-    let p = put_field(out, at, b" fields ", l.n as u64);
-    let q = put_field(out, p, b" ", l.s as u64);
-    let s = put_field(out, q, b" ", l.r as u64);
-    let t = put_field(out, s, b" length ", l.length as u64);
+    let p = put_field(out, at, b" fields ", u64::from(l.n));
+    let q = put_field(out, p, b" ", u64::from(l.s));
+    let s = put_field(out, q, b" ", u64::from(l.r));
+    let t = put_field(out, s, b" length ", u64::from(l.length));
     if l.normal {
-        return t;
+        t
+    } else {
+        lines::text(out, t, b" not normal")
     }
-    lines::text(out, t, b" not normal")
 }
 
 // A logical immediate.
 fn put_logical(out: &mut [u8], at: usize, l: LogicalWord) -> usize
     ensures { (result, out.new) ≡ parts_at (at, out.old) (logical_parts l) }
 {
-    let p = put_operation(out, at, l.operation);
-    let q = put_field(out, p, b" width ", l.width as u64);
-    let s = put_field(out, q, b" rn ", l.rn as u64);
-    let t = put_field(out, s, b" rd ", l.rd as u64);
+    let p = lines::text(out, at, name_of(l.operation));
+    let q = put_field(out, p, b" width ", u64::from(l.width));
+    let s = put_field(out, q, b" rn ", u64::from(l.rn));
+    let t = put_field(out, s, b" rd ", u64::from(l.rd));
     let u = put_value(out, t, l.value);
     put_fields(out, u, l)
 }
@@ -117,14 +114,16 @@ fn put_logical(out: &mut [u8], at: usize, l: LogicalWord) -> usize
 fn put_displacement(out: &mut [u8], at: usize, d: Displacement) -> usize
     ensures { (result, out.new) ≡ parts_at (at, out.old) (displacement_parts d) }
 {
-    let p = put_field(out, at, b" displacement format ", d.format as u64);
+    let p = put_field(out, at, b" displacement format ", u64::from(d.format));
     let q = lines::text(out, p, b" base ");
     let s = lines::word(out, q, d.base.0);
-    let b = words::bits_of(d.distance.0);
-    if b < 0x8000_0000_0000_0000 {
-        return put_field(out, s, b" distance ", b);
+    let distance = d.distance.0;
+    let size = distance.unsigned_abs();
+    if distance.is_negative() {
+        put_field(out, s, b" distance -", size)
+    } else {
+        put_field(out, s, b" distance ", size)
     }
-    put_field(out, s, b" distance -", u64::MAX - b + 1)
 }
 
 // What one word is.
@@ -162,11 +161,7 @@ fn put_told(out: &mut [u8], at: usize, t: Told) -> usize
 pub fn line(t: Told, out: &mut [u8], at: usize) -> usize
     ensures { (result, out.new) ≡ line_at out.old at (parts_of t) }
 {
-    let room = out.len();
-    if room < at {
-        return at;
-    }
-    if room - at < 320 {
+    if out.len().saturating_sub(at) < LONGEST_LINE {
         return at;
     }
     let p = put_told(out, at, t);

@@ -10,30 +10,31 @@ use Rattle.reader.specs.declared.Span.{Span}
 use Rattle.reader.specs.declared.Found.TheVariants as found
 use Rattle.archive_pieces.specs.declared.Told.{Told}
 use Rattle.archive_pieces.specs.declared.Told.TheVariants.{Joined, Single}
-use Rattle.archive_pieces.specs.declared.Carried.{Carried}
-use Rattle.archive_pieces.specs.declared.Carried.TheVariants.{Nothing, Begun}
+use Rattle.std.specs.Prelude.{None, Some, Ok, Result}
+use Rattle.words.specs.declared.Refusal.{Refusal}
+use Rattle.reader.specs.declared.Found.{Found}
 use Rattle.archive_pieces.specs.declared.Step.{Step}
 use Rattle.archive_pieces.specs.declared.Step.TheVariants.{Tell, Carry}
-use Rattle.archive_pieces.specs.Steps.{step_of}
+use Rattle.archive_pieces.specs.Steps.{Carried, step_of}
 use Rattle.archive_pieces.specs.Archive.{Items, end, joined, single, on_by, Pieces, none, last, tells, carries, joined_up}
 use Rattle.archive_pieces.proofs.Forward.{held, forward}
 use Rattle.archive_pieces.proofs.Whole.{pieces_whole}
 
 -- ---- one list of items
 
-other : {c : Constant} {i : Item} {s u : Span} → found.Joined c s ≡ found.Single i u → ⊥
+other : {c : Constant} {i : Item} {s u : Span} → ◌≡◌ {A = Result Found Refusal} (Ok (found.Joined c s)) (Ok (found.Single i u)) → ⊥
 other e = let z : ◌≡◌ {A = ℕ} 0 1 = cc in omega arith
 
-no_joined : {c : Constant} {s : Span} → found.End ≡ found.Joined c s → ⊥
+no_joined : {c : Constant} {s : Span} → ◌≡◌ {A = Result Found Refusal} (Ok found.End) (Ok (found.Joined c s)) → ⊥
 no_joined e = let z : ◌≡◌ {A = ℕ} 0 1 = cc in omega arith
 
-no_single : {i : Item} {s : Span} → found.End ≡ found.Single i s → ⊥
+no_single : {i : Item} {s : Span} → ◌≡◌ {A = Result Found Refusal} (Ok found.End) (Ok (found.Single i s)) → ⊥
 no_single e = let z : ◌≡◌ {A = ℕ} 0 1 = cc in omega arith
 
-same_joined : {c d : Constant} {s u : Span} → found.Joined c s ≡ found.Joined d u → (c ≡ d) × (s ≡ u)
+same_joined : {c d : Constant} {s u : Span} → ◌≡◌ {A = Result Found Refusal} (Ok (found.Joined c s)) (Ok (found.Joined d u)) → (c ≡ d) × (s ≡ u)
 same_joined e = (cc, cc)
 
-same_single : {i j : Item} {s u : Span} → found.Single i s ≡ found.Single j u → (i ≡ j) × (s ≡ u)
+same_single : {i j : Item} {s u : Span} → ◌≡◌ {A = Result Found Refusal} (Ok (found.Single i s)) (Ok (found.Single j u)) → (i ≡ j) × (s ≡ u)
 same_single e = (cc, cc)
 
 pub one_list : {ws : List ℕ} {at : ℕ} {ts us : List Told} → Items ws at ts → Items ws at us → ts ≡ us
@@ -53,7 +54,7 @@ one_list {ws} {at} (single {i = i} e p) (single f q) =
 
 -- however it is cut
 pub cut_anyhow : (ps qs : List (List ℕ)) (ts us : List Told) → joined_up ps ≡ joined_up qs → length (joined_up ps) < 2 ^ 64
-    → Pieces Nothing 0 ps ts → Pieces Nothing 0 qs us → ts ≡ us
+    → Pieces None 0 ps ts → Pieces None 0 qs us → ts ≡ us
 cut_anyhow ps qs ts us e small p q =
     one_list (pieces_whole ps ts small p) (rw e (pieces_whole qs us (rw (← e) small) q))
 
@@ -64,22 +65,22 @@ abbrev left : Carried → List (List ℕ) → ℕ
 left k ps = 2 * length (joined_up ps) + 2 * length ps + held k
 
 short_held : (k : Carried) → held k ≤ 1
-short_held Nothing = omega arith
-short_held (Begun c began) = omega arith
+short_held None = omega arith
+short_held (Some b) = omega arith
 
 pub told_to_the_end : (m : ℕ) (k : Carried) (at : ℕ) (ps : List (List ℕ)) → left k ps ≤ m → (ts : List Told) × Pieces k at ps ts
-told_to_the_end m Nothing at [] h = ([], none)
-told_to_the_end m (Begun c began) at [] h = (Joined c began ∷ [], last)
+told_to_the_end m None at [] h = ([], none)
+told_to_the_end m (Some b) at [] h = (Joined b.constant b.at ∷ [], last)
 told_to_the_end zero k at (ws ∷ ps) h = absurd (omega arith)
 told_to_the_end (suc m) k at (ws ∷ ps) h =
-    go (step_of ws at k) refl (λ n. told_to_the_end m Nothing (on_by at n) (drop n ws ∷ ps)) (λ l. told_to_the_end m l (on_by at (length ws)) ps)
+    go (step_of ws at k) refl (λ n. told_to_the_end m None (on_by at n) (drop n ws ∷ ps)) (λ l. told_to_the_end m l (on_by at (length ws)) ps)
   where
-    fewer : (k : Carried) (n : ℕ) → n ≤ length ws → (k ≡ Nothing → 0 < n) → left k (ws ∷ ps) ≤ suc m → left Nothing (drop n ws ∷ ps) ≤ m
-    fewer Nothing n i f h = omega (arith, i, f refl, h, length-append ws (joined_up ps), length-append (drop n ws) (joined_up ps), length-drop n ws)
-    fewer (Begun c b) n i f h = omega (arith, i, h, length-append ws (joined_up ps), length-append (drop n ws) (joined_up ps), length-drop n ws)
+    fewer : (k : Carried) (n : ℕ) → n ≤ length ws → (k ≡ None → 0 < n) → left k (ws ∷ ps) ≤ suc m → left None (drop n ws ∷ ps) ≤ m
+    fewer None n i f h = omega (arith, i, f refl, h, length-append ws (joined_up ps), length-append (drop n ws) (joined_up ps), length-drop n ws)
+    fewer (Some b) n i f h = omega (arith, i, h, length-append ws (joined_up ps), length-append (drop n ws) (joined_up ps), length-drop n ws)
 
     go : (x : Step) → step_of ws at k ≡ x
-        → ((n : ℕ) → left Nothing (drop n ws ∷ ps) ≤ m → (ts : List Told) × Pieces Nothing (on_by at n) (drop n ws ∷ ps) ts)
+        → ((n : ℕ) → left None (drop n ws ∷ ps) ≤ m → (ts : List Told) × Pieces None (on_by at n) (drop n ws ∷ ps) ts)
         → ((l : Carried) → left l ps ≤ m → (ts : List Told) × Pieces l (on_by at (length ws)) ps ts)
         → (ts : List Told) × Pieces k at (ws ∷ ps) ts
     go (Tell t n) e again on =

@@ -22,21 +22,10 @@ use Rattle.reader.proofs.Cover.{onward}
 use Rattle.reader.proofs.Constants.{leading_take}
 use Rattle.archive_pieces.specs.declared.Told.{Told}
 use Rattle.archive_pieces.specs.declared.Told.TheVariants.{Joined}
-use Rattle.archive_pieces.specs.declared.Carried.{Carried}
-use Rattle.archive_pieces.specs.declared.Carried.TheVariants.{Nothing, Begun}
-use Rattle.archive_pieces.specs.declared.Step.{Step}
+use Rattle.std.specs.Prelude.{None, Some, Ok, Err, Result}
+use Rattle.archive_pieces.specs.declared.Begun.{Begun}
 use Rattle.archive_pieces.specs.declared.Step.TheVariants.{Tell, Carry}
-use Rattle.archive_pieces.specs.Steps.{begins_of, goes_on_of, step_of}
-
--- ---- the two cases of a step
-
-pub first_step : (ws : List ℕ) (at : ℕ) {r : Step} → r ≡ begins_of ws at (found_of ws 0) → r ≡ step_of ws at Nothing
-unfolding step_of
-first_step ws at e = e
-
-pub next_step : (ws : List ℕ) (at : ℕ) (c : Constant) (began : ℕ) {r : Step} → r ≡ goes_on_of ws c began (resumed_of ws c) → r ≡ step_of ws at (Begun c began)
-unfolding step_of
-next_step ws at c began e = e
+use Rattle.archive_pieces.specs.Steps.{Carried, begun, begins_of, goes_on_of, step_of}
 
 -- ---- answers taken apart
 
@@ -74,11 +63,11 @@ empty (w ∷ ws) e = absurd (none-ne-some _ (sym e ∙ (onward (w ∷ ws) 0 (ome
 
 -- ---- what a constant that goes on is: another one, whose words stand at the piece's start, or refused
 
-pub data Resumed (ws : List ℕ) : Found → Type 0 where
-  goes : {d : Constant} {n : ℕ} → n ≤ length ws → Resumed ws (found.Joined d (span 0 n))
-  refused : {r : Refusal} → Resumed ws (found.No r)
+pub data Resumed (ws : List ℕ) : Result Found Refusal → Type 0 where
+  goes : {d : Constant} {n : ℕ} → n ≤ length ws → Resumed ws (Ok (found.Joined d (span 0 n)))
+  refused : {r : Refusal} → Resumed ws (Err r)
 
-joined_on_lem : (ws : List ℕ) (c : Constant) → Resumed ws (joined_on ws c)
+joined_on_lem : (ws : List ℕ) (c : Constant) → Resumed ws (Ok (joined_on ws c))
 unfolding joined_on
 joined_on_lem ws c =
     let l = leading c.sf c.rd ws in
@@ -91,7 +80,7 @@ unfolding resumed_of
 resumed ws c =
     go (ltb 1 c.sf) (ltb 30 c.rd) (ltb (Ones (datasize c.sf)) c.value) (ltb (2 ^ 64 - 1 - c.count) (length ws))
   where
-    go : (a b v m : Bool) → Resumed ws (cond a (found.No Width) (cond b (found.No Register) (cond v (found.No NoField) (cond m (found.No NoRoom) (joined_on ws c)))))
+    go : (a b v m : Bool) → Resumed ws (cond a (Err Width) (cond b (Err Register) (cond v (Err NoField) (cond m (Err NoRoom) (Ok (joined_on ws c))))))
     go true b v m = refused
     go false true v m = refused
     go false false true m = refused
@@ -102,41 +91,41 @@ resumed ws c =
 
 -- a constant that is carried is one step more
 abbrev pub held : Carried → ℕ
-held Nothing = 0
-held (Begun c began) = 1
+held None = 0
+held (Some b) = 1
 
 pub record Forward (ws : List ℕ) (k : Carried) (n : ℕ) : Type 0 where
   pub within : n ≤ length ws
-  pub later : k ≡ Nothing → 0 < n
+  pub later : k ≡ None → 0 < n
 
 module _ (ws : List ℕ) (at : ℕ) (t : Told) (n : ℕ) where
-  forward_first : (f : Found) → found_of ws 0 ≡ f → begins_of ws at f ≡ Tell t n → (0 < n) × (n ≤ length ws)
-  forward_first (found.Joined c s) q e = go (eqb s.next.0 (length ws)) e
+  forward_first : (f : Result Found Refusal) → found_of ws 0 ≡ f → begins_of ws at f ≡ Tell t n → (0 < n) × (n ≤ length ws)
+  forward_first (Ok (found.Joined c s)) q e = go (eqb s.next.0 (length ws)) e
     where
-      go : (b : Bool) → cond b (Carry (Begun c at)) (Tell (Joined c at) s.next.0) ≡ Tell t n → (0 < n) × (n ≤ length ws)
+      go : (b : Bool) → cond b (Carry (Some (begun c at))) (Tell (Joined c at) s.next.0) ≡ Tell t n → (0 < n) × (n ≤ length ws)
       go true e = absurd (carry_tell e)
       go false e = let p = spans_of ws s (ap span_of q) in rw (← (tell_back e).1) (p.later, p.within)
-  forward_first (found.Single i s) q e = let p = spans_of ws s (ap span_of q) in rw (← (tell_back e).1) (p.later, p.within)
-  forward_first found.End q e = absurd (carry_tell e)
-  forward_first (found.No r) q e = absurd (carry_tell e)
+  forward_first (Ok (found.Single i s)) q e = let p = spans_of ws s (ap span_of q) in rw (← (tell_back e).1) (p.later, p.within)
+  forward_first (Ok found.End) q e = absurd (carry_tell e)
+  forward_first (Err r) q e = absurd (carry_tell e)
 
-  forward_next : (c : Constant) (began : ℕ) {f : Found} → Resumed ws f → goes_on_of ws c began f ≡ Tell t n → n ≤ length ws
-  forward_next c began (goes {d} {n = m} h) e = go (eqb m (length ws)) e
+  forward_next : (b : Begun) {f : Result Found Refusal} → Resumed ws f → goes_on_of ws b f ≡ Tell t n → n ≤ length ws
+  forward_next k (goes {d} {n = m} h) e = go (eqb m (length ws)) e
     where
-      go : (b : Bool) → cond b (Carry (Begun d began)) (Tell (Joined d began) m) ≡ Tell t n → n ≤ length ws
+      go : (b : Bool) → cond b (Carry (Some (begun d k.at))) (Tell (Joined d k.at) m) ≡ Tell t n → n ≤ length ws
       go true e = absurd (carry_tell e)
       go false e = rw (← (tell_back e).1) h
-  forward_next c began refused e = rw (← (tell_back e).1) (omega arith)
+  forward_next k refused e = rw (← (tell_back e).1) (omega arith)
 
   pub forward : (k : Carried) → step_of ws at k ≡ Tell t n → Forward ws k n
   unfolding step_of
-  forward Nothing e = let p = forward_first (found_of ws 0) refl e in record { within = p.1; later = λ q. p.0 }
-  forward (Begun c began) e = record { within = forward_next c began (resumed ws c) e; later = λ q. absurd (no_nothing q) }
+  forward None e = let p = forward_first (found_of ws 0) refl e in record { within = p.1; later = λ q. p.0 }
+  forward (Some b) e = record { within = forward_next b (resumed ws b.constant) e; later = λ q. absurd (no_nothing q) }
     where
-      no_nothing : Begun c began ≡ Nothing → ⊥
+      no_nothing : Some b ≡ None → ⊥
       no_nothing q = let z : ◌≡◌ {A = ℕ} 0 1 = cc in omega arith
 
 -- so the words that are left, twice, and what is carried get fewer
 pub nearer : (ws : List ℕ) (at n : ℕ) (t : Told) (k : Carried) → step_of ws at k ≡ Tell t n → 2 * (length ws - n) < 2 * length ws + held k
-nearer ws at n t Nothing e = let f = forward ws at t n Nothing e in omega (arith, f.within, f.later refl)
-nearer ws at n t (Begun c began) e = omega (arith, (forward ws at t n (Begun c began) e).within)
+nearer ws at n t None e = let f = forward ws at t n None e in omega (arith, f.within, f.later refl)
+nearer ws at n t (Some b) e = omega (arith, (forward ws at t n (Some b) e).within)

@@ -5,8 +5,8 @@ use Rattle.words.proofs.Runs.{sets_append}
 use Rattle.lines.specs.Parts.{bytes_of_all}
 use Rattle.lines.proofs.Parts.{short_parts}
 use Rattle.archive_pieces.specs.declared.Told.{Told}
-use Rattle.archive_pieces.specs.declared.Carried.{Carried}
-use Rattle.archive_pieces.specs.declared.Carried.TheVariants.{Nothing, Begun}
+use Rattle.archive_pieces.specs.Steps.{Carried}
+use Rattle.std.specs.Prelude.{None}
 use Rattle.archive_pieces.specs.declared.Step.{Step}
 use Rattle.archive_pieces.specs.declared.Step.TheVariants.{Tell, Carry}
 use Rattle.archive_pieces.specs.Steps.{step_of}
@@ -40,7 +40,7 @@ module _ (ws : List ℕ) (at₀ : ℕ) (k₀ : Carried) (o : List ℕ) where
   pub again : {i at p n at' p' : ℕ} {k : Carried} {o' o'' : List ℕ} {t : Told} {x : Step}
       → Upto ws at₀ k₀ o false i at k p o' → p + 320 ≤ length o' → x ≡ step_of (take (length ws - i) (drop i ws)) at k → x ≡ Tell t n
       → ◌≡◌ {A = ℕ × List ℕ} (p', o'') (line_at o' p (parts_of t)) → at' ≡ (at + n) % 2 ^ 64
-      → Upto ws at₀ k₀ o false (i + n) at' Nothing p' o''
+      → Upto ws at₀ k₀ o false (i + n) at' None p' o''
   again {i} {at} {p} {n} {at'} {p'} {k} {o'} {o''} {t} u room e q w next =
       let ts = u.told in
       let v = texts_of (t ∷ []) in
@@ -106,23 +106,14 @@ all_fewer start = omega arith
 all_fewer {ws} (tell {i} {at} {n} {k} {t} {ts} s e) =
     omega (arith, all_fewer s, steps_within s, nearer (drop i ws) at n t k e, (forward (drop i ws) at t n k e).within, length-drop i ws, length-append ts (t ∷ []))
 
-abbrev pub going : Bool → ℕ
-going true = 0
-going false = 2
-
-pub short_held : (k : Carried) → held k ≤ 1
-short_held Nothing = omega arith
-short_held (Begun c began) = omega arith
-
 some_told : (ts : List Told) → 0 < length (texts_of ts) → 0 < length ts
 some_told [] h = h
 some_told (t ∷ ts) h = omega arith
 
-pub progress : {ws o o' : List ℕ} {at₀ i at p : ℕ} {k₀ k : Carried} (e : Bool) → Upto ws at₀ k₀ o e i at k p o' → (e ≡ false → length o < p + 320) → 320 ≤ length o
-    → 2 * (length ws - i) + held k + going e < 2 * length ws + held k₀ + 2
-progress {k₀ = k₀} {k = k} true u f room = omega (arith, at-end u.steps, short_held k)
-progress false u f room =
-    let some = some_told u.told (omega (arith, u.text, f refl)) in
+progress : {ws o o' : List ℕ} {at₀ i at p : ℕ} {k₀ k : Carried} → Upto ws at₀ k₀ o false i at k p o' → length o < p + 320 → 320 ≤ length o
+    → 2 * (length ws - i) + held k < 2 * length ws + held k₀
+progress u f room =
+    let some = some_told u.told (omega (arith, u.text, f)) in
     omega (arith, all_fewer u.steps, some)
 
 -- how far the items of a piece were told
@@ -136,14 +127,13 @@ nothing_yet ws at k = record { told = []; steps = start }
 pub all_passed : {ws : List ℕ} {at₀ : ℕ} {k₀ : Carried} {i at : ℕ} {k : Carried} {e : Bool} → Sofar ws at₀ k₀ e i at k → e ≡ true → Passed ws at₀ k₀ at k
 all_passed s f = let q = rw f at s.steps in record { told = s.told; steps = rw (at-end q) at q }
 
-module _ {ws o o' : List ℕ} {at₀ i at j at' p : ℕ} {k₀ k k' : Carried} {b e : Bool} (s : Sofar ws at₀ k₀ b i at k) (f : b ≡ false)
+module _ {ws o o' : List ℕ} {at₀ i at j at' p : ℕ} {k₀ k k' : Carried} {e : Bool} (s : Sofar ws at₀ k₀ false i at k)
     (u : Upto (take (length ws - i) (drop i ws)) at k o e j at' k' p o') where
-  pub gone_on_lem : Sofar ws at₀ k₀ e (i + j) at' k'
-  gone_on_lem = record { told = s.told ++ u.told; steps = on (rw f at s.steps) (rw (to_the_end ws i) at u.steps) }
+  pub gone_on : Sofar ws at₀ k₀ e (i + j) at' k'
+  gone_on = record { told = s.told ++ u.told; steps = on s.steps (rw (to_the_end ws i) at u.steps) }
 
-  pub gone_less : (e ≡ false → length o < p + 320) → 320 ≤ length o → 2 * (length ws - (i + j)) + held k' + going e < 2 * (length ws - i) + held k + going b
-  gone_less g room =
+  pub gone_less : (e ≡ false → length o < p + 320) → 320 ≤ length o → e ≡ false → 2 * (length ws - (i + j)) + held k' < 2 * (length ws - i) + held k
+  gone_less g room f =
       let n : length (take (length ws - i) (drop i ws)) ≡ length ws - i = ap length (to_the_end ws i) ∙ length-drop i ws in
-      let l = progress e u g room in
-      let two : going b ≡ 2 = ap going f in
-      omega (arith, l, n, two)
+      let l = progress (rw f at u) (g f) room in
+      omega (arith, l, n)

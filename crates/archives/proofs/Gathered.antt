@@ -1,5 +1,6 @@
 -- The words of bytes, one by one. Assumes nothing.
-use Rattle.std.proofs.Common.{◌≡◌, ℕ, zero, suc, ◌+◌, ◌-◌, ◌*◌, ◌/◌, ◌<◌, ◌≤◌, List, [], ◌∷◌, length, get_or, take, drop, set, sym, refl, ap, ◌∙◌, zero-add, arith, length-drop, length-take, take_at}
+use Rattle.std.proofs.Common.{◌≡◌, ℕ, zero, suc, ◌+◌, ◌-◌, ◌/◌, ◌<◌, ◌≤◌, List, [], ◌∷◌, length, get_or, take, drop, set, sym, refl, ap, ◌∙◌, zero-add, arith, length-drop, length-take, take_at}
+use Rattle.std.specs.Simd.{first_chunks}
 use lib.Seq.{sets, sets-eq, take-length}
 use Rattle.words.proofs.Runs.{one_more}
 use Rattle.archives.specs.Printed.{word_of, words_of}
@@ -15,21 +16,20 @@ words_length (a ∷ b ∷ []) = refl
 words_length (a ∷ b ∷ c ∷ []) = refl
 words_length (a ∷ b ∷ c ∷ d ∷ bs) = omega (arith, words_length bs)
 
-word_at : (bs : List ℕ) (k : ℕ) → k < length bs / 4 → word_of (drop (k * 4) bs) ≡ get_or (words_of bs) k 0
-word_at [] k h = absurd (omega arith)
-word_at (a ∷ []) k h = absurd (omega arith)
-word_at (a ∷ b ∷ []) k h = absurd (omega arith)
-word_at (a ∷ b ∷ c ∷ []) k h = absurd (omega arith)
-word_at (a ∷ b ∷ c ∷ d ∷ bs) zero h = refl
-word_at (a ∷ b ∷ c ∷ d ∷ bs) (suc k) h =
-    let e : suc k * 4 ≡ suc (suc (suc (suc (k * 4)))) = omega arith in
-    ap (λ (n : ℕ). word_of (drop n (a ∷ b ∷ c ∷ d ∷ bs))) e ∙ word_at bs k (omega arith)
+word_in : (bs : List ℕ) (n k : ℕ) → k < n → n ≤ length bs / 4 → word_of (get_or (first_chunks 4 n bs) k []) ≡ get_or (words_of bs) k 0
+word_in bs zero k h r = absurd (omega arith)
+word_in [] (suc n) k h r = absurd (omega arith)
+word_in (a ∷ []) (suc n) k h r = absurd (omega arith)
+word_in (a ∷ b ∷ []) (suc n) k h r = absurd (omega arith)
+word_in (a ∷ b ∷ c ∷ []) (suc n) k h r = absurd (omega arith)
+word_in (a ∷ b ∷ c ∷ d ∷ bs) (suc n) zero h r = refl
+word_in (a ∷ b ∷ c ∷ d ∷ bs) (suc n) (suc k) h r = word_in bs n k (omega arith) (omega arith)
 
 -- one word more at the start of a run
-pub one_word : (o bs : List ℕ) (k : ℕ) → k < length bs / 4 → {w : ℕ} → w ≡ word_of (take (length bs - k * 4) (drop (k * 4) bs))
+pub one_word : (o bs : List ℕ) (k : ℕ) {fs : List (List ℕ)} → fs ≡ first_chunks 4 (length bs / 4) bs → k < length bs / 4 → {w : ℕ} → w ≡ word_of (get_or fs k [])
     → set (sets o 0 (take k (words_of bs))) k w ≡ sets o 0 (take (suc k) (words_of bs))
-one_word o bs k h e =
-    let q = e ∙ ap word_of (to_the_end bs (k * 4)) ∙ word_at bs k h in
+one_word o bs k f h e =
+    let q = e ∙ ap (λ (l : List (List ℕ)). word_of (get_or l k [])) f ∙ word_in bs (length bs / 4) k h (omega arith) in
     ap (set (sets o 0 (take k (words_of bs))) k) q ∙ ap (λ (i : ℕ). set (sets o 0 (take k (words_of bs))) i (get_or (words_of bs) k 0)) (sym (zero-add k))
     ∙ one_more o (words_of bs) 0 k (omega (arith, words_length bs))
 

@@ -1,7 +1,7 @@
 -- What was told block by block are the items of the whole input. Assumes nothing.
 use Rattle.std.proofs.Common.{ℕ, true, false, List, [], ◌∷◌, ◌++◌, drop, append_assoc, drop-drop}
 use Rattle.archive_pieces.specs.declared.Told.{Told}
-use Rattle.archive_pieces.specs.declared.Carried.{Carried}
+use Rattle.archive_pieces.specs.Steps.{Carried}
 use Rattle.archive_pieces.specs.Archive.{Pieces, tells, carries}
 use Rattle.archives.specs.Printed.{Steps, start, tell, carry, Passed}
 

@@ -3,8 +3,8 @@ use Rattle.std.specs.Prelude.{◌≡◌, ℕ, ◌+◌, ◌*◌, ◌^◌, ◌≤�
 use Rattle.std.proofs.lemmas.List.Edits.{sets}
 use Rattle.lines.specs.Parts.{bytes_of_all}
 use Rattle.archive_pieces.specs.declared.Told.{Told}
-use Rattle.archive_pieces.specs.declared.Carried.{Carried}
-use Rattle.archive_pieces.specs.declared.Carried.TheVariants.{Nothing}
+use Rattle.archive_pieces.specs.Steps.{Carried}
+use Rattle.std.specs.Prelude.{None}
 use Rattle.archive_pieces.specs.declared.Step.TheVariants.{Tell, Carry}
 use Rattle.archive_pieces.specs.Steps.{step_of}
 use Rattle.archive_pieces.specs.Archive.{on_by}
@@ -27,7 +27,7 @@ words_of (a ∷ b ∷ c ∷ d ∷ bs) = word_of (a ∷ b ∷ c ∷ d ∷ []) ∷
 pub data Steps (ws : List ℕ) (at₀ : ℕ) (k₀ : Carried) : Bool → ℕ → ℕ → Carried → List Told → Type 0 where
   start : Steps ws at₀ k₀ false 0 at₀ k₀ []
   tell : {i at n : ℕ} {k : Carried} {t : Told} {ts : List Told} → Steps ws at₀ k₀ false i at k ts → step_of (drop i ws) at k ≡ Tell t n
-      → Steps ws at₀ k₀ false (i + n) (on_by at n) Nothing (ts ++ (t ∷ []))
+      → Steps ws at₀ k₀ false (i + n) (on_by at n) None (ts ++ (t ∷ []))
   carry : {i at : ℕ} {k l : Carried} {ts : List Told} → Steps ws at₀ k₀ false i at k ts → step_of (drop i ws) at k ≡ Carry l
       → Steps ws at₀ k₀ true (length ws) (on_by at (length (drop i ws))) l ts
 

@@ -3,38 +3,28 @@
 // standard error are lent by the caller.
 #![tactic(auto)]
 
-ghost use Rattle.std.specs.Prelude.{◌≡◌, ◌+◌, ◌/◌, ◌<◌, ◌≤◌, true, false, length, take};
+ghost use Rattle.std.specs.Prelude.{◌≡◌, ◌+◌, ◌/◌, ◌<◌, ◌≤◌, false, length, take, IfSome};
 ghost use Rattle.archives.specs.Printed.{word_of, words_of, Upto, Passed};
 
-use archive_pieces::{Carried, Step, Told};
+use archive_pieces::{Begun, Step, Told};
 use lines::Answer;
-use std::io;
 use std::io::Read;
 
-// How far the items of a piece were printed: words of the piece and bytes of the run, the position behind them, what is carried there, and whether
-// that is the piece's end.
+// A position of the archive, and what is carried there.
+#[derive(Clone, Copy)]
+struct Place {
+    at: u64,
+    carried: Option<Begun>,
+}
+
+// How far the items of a piece were printed: words of the piece and bytes of the run, the place behind them, and whether that is the piece's end.
+// Stays: each number counts whether the piece ended or not.
 #[derive(Clone, Copy)]
 struct Printed {
     taken: usize,
     written: usize,
-    at: u64,
-    carried: Carried,
+    next: Place,
     ended: bool,
-}
-
-// Where the next block stands, what is carried into it, and whether there is none.
-#[derive(Clone, Copy)]
-struct Next {
-    at: u64,
-    carried: Carried,
-    over: bool,
-}
-
-// How many bytes were read, and whether a read failed behind them.
-#[derive(Clone, Copy)]
-struct Filled {
-    count: usize,
-    failed: bool,
 }
 
 // Tells on standard error that the input ends in a tail, which stands at an offset.
@@ -42,114 +32,59 @@ fn tell_cut<E: Eprint>(rt: &E, offset: u64) {
     let _ = eprintln!(rt; "cut at {offset}: the last word has fewer than 4 bytes");
 }
 
-// Tells on standard error what failed, and why.
-fn tell_failed<E: Eprint>(rt: &E, what: &str, why: io::Error) {
-    let _ = eprintln!(rt; "{what}: {why}");
-}
-
-// Writes lines, and tells where that fails.
+// Writes lines on standard output, tells where that fails, and says whether they were written.
+// Stays: as in `batches`, since a public function's answer is to be determined by its contract, and what a write gives no contract says.
 fn written<H: Print + Eprint>(rt: &H, text: &[u8]) -> bool {
     match rt.write_all(text) {
         Ok(()) => true,
-        Err(e) => {
-            tell_failed(rt, "standard output", e);
+        Err(why) => {
+            let _ = eprintln!(rt; "standard output: {why}");
             false
         }
     }
 }
 
-// One read, which may end the input (no bytes) or fail, which is told.
-fn read_some<R: Read, E: Eprint>(rt: &E, input: &mut R, part: &mut [u8]) -> Filled
-    ensures { result.count ≤ length part.new }
-{
-    match input.read(part) {
-        Ok(count) => Filled {
-            count,
-            failed: false,
-        },
-        Err(e) => {
-            tell_failed(rt, "standard input", e);
-            Filled {
-                count: 0,
-                failed: true,
-            }
-        }
-    }
-}
-
-// Reads until the buffer is full, the input ends or a read fails.
-fn fill<R: Read, E: Eprint>(rt: &E, input: &mut R, buf: &mut [u8]) -> Filled
-    ensures { result.count ≤ length buf.new }
-{
-    let mut done = 0;
-    while done < buf.len() {
-        let f = read_some(rt, input, &mut buf[done..]);
-        if f.count == 0 {
-            return Filled {
-                count: done,
-                failed: f.failed,
-            };
-        }
-        done += f.count;
-    }
-    Filled {
-        count: done,
-        failed: false,
-    }
-}
-
-fn wide(b: u8) -> u32
-    ensures { (result ≡ b) × (result < 256) }
-{
-    b as u32
-}
-
-// The word of the first four bytes, low byte first.
-fn word(bytes: &[u8]) -> u32
-    requires { 4 ≤ length bytes.now }
-    ensures { result ≡ word_of bytes.now }
-{
-    wide(bytes[0]) + wide(bytes[1]) * 256 + wide(bytes[2]) * 65536 + wide(bytes[3]) * 16777216
-}
-
-// The whole words of bytes, from the start of a run.
+// The whole words of bytes, low byte first, from the start of a run.
 fn gather(bytes: &[u8], words: &mut [u32]) -> usize
     requires { length bytes.now / 4 ≤ length words.old }
     ensures value { result ≡ length bytes.now / 4 }
     ensures words_after { take result words.new ≡ words_of bytes.now }
 {
-    let mut n = 0;
-    while n < bytes.len() / 4 {
-        words[n] = word(&bytes[n * 4..]);
-        n += 1;
+    let (fours, _) = bytes.as_chunks::<4>();
+    for (i, four) in fours.iter().enumerate() {
+        words[i] = u32::from_le_bytes(*four);
     }
-    n
+    fours.len()
 }
 
 // The lines of a piece's items from the start of a run, until the piece is at its end or there is no room for any line.
-fn print(words: &[u32], at: u64, carried: Carried, out: &mut [u8]) -> Printed
-    ensures upto { Upto words.now at carried out.old result.ended result.taken result.at result.carried result.written out.new }
+fn print(words: &[u32], from: Place, out: &mut [u8]) -> Printed
+    ensures upto { Upto words.now from.at from.carried out.old result.ended result.taken result.next.at result.next.carried result.written out.new }
     ensures out_len_bound { result.ended ≡ false → length out.old < result.written + 320 }
 {
     let mut i = 0;
-    let mut position = at;
-    let mut kept = carried;
+    let mut next = from;
     let mut p = 0;
+    // Stays: how many words an item takes is what `read_on` answers, so there is no range to go over.
     while 320 <= out.len() - p {
-        match archive_pieces::read_on(&words[i..], position, kept) {
+        match archive_pieces::read_on(&words[i..], next.at, next.carried) {
             Step::Tell(t, n) => {
                 p = archive_lines::line(t, out, p);
                 i += n;
-                position = std::num::wrapping_add_u64(position, n as u64);
-                kept = Carried::Nothing;
+                next = Place {
+                    at: next.at.wrapping_add(n as u64),
+                    carried: None,
+                };
             }
-            Step::Carry(k) => {
+            Step::Carry(carried) => {
                 let left = words.len() - i;
                 return Printed {
                     taken: words.len(),
                     written: p,
-                    at: std::num::wrapping_add_u64(position, left as u64),
-                    carried: k,
+                    next: Place {
+                        at: next.at.wrapping_add(left as u64),
+                        carried,
+                    },
                     ended: true,
                 };
             }
@@ -158,61 +93,51 @@ fn print(words: &[u32], at: u64, carried: Carried, out: &mut [u8]) -> Printed
     Printed {
         taken: i,
         written: p,
-        at: position,
-        carried: kept,
+        next,
         ended: false,
     }
 }
 
-// The lines of a piece's items, written: one write for each run of lines. It is over also where nothing more can be written.
-fn pass<H: Print + Eprint>(rt: &H, words: &[u32], at: u64, carried: Carried, out: &mut [u8]) -> Next
+// The lines of a piece's items, written: one write for each run of lines. The answer is the place behind them, and none where nothing more can be
+// written.
+fn pass<H: Print + Eprint>(rt: &H, words: &[u32], from: Place, out: &mut [u8]) -> Option<Place>
     requires { 320 ≤ length out.old }
-    ensures { result.over ≡ false → Passed words.now at carried result.at result.carried }
+    ensures { IfSome result (λ next. Passed words.now from.at from.carried next.at next.carried) }
 {
     let mut i = 0;
-    let mut position = at;
-    let mut kept = carried;
-    let mut ended = false;
-    while !ended {
-        let p = print(&words[i..], position, kept, out);
-        let n = p.written;
+    let mut next = from;
+    // Stays: a run of lines takes as many items as it has room for, so there is no range to go over.
+    loop {
+        let p = print(&words[i..], next, out);
         i += p.taken;
-        position = p.at;
-        kept = p.carried;
-        ended = p.ended;
-        if !written(rt, &out[..n]) {
-            return Next {
-                at: position,
-                carried: kept,
-                over: true,
-            };
+        next = p.next;
+        if !written(rt, &out[..p.written]) {
+            return None;
         }
-    }
-    Next {
-        at: position,
-        carried: kept,
-        over: false,
+        if p.ended {
+            return Some(next);
+        }
     }
 }
 
 // The line of a constant that is carried past the end of the input.
-fn rest(carried: Carried, out: &mut [u8]) -> usize {
-    match carried {
-        Carried::Nothing => 0,
-        Carried::Begun(c, began) => archive_lines::line(Told::Joined(c, began), out, 0),
-    }
+fn rest(carried: Option<Begun>, out: &mut [u8]) -> usize {
+    carried.map_or(
+        0,
+        |b| archive_lines::line(Told::Joined(b.constant, b.at), out, 0),
+    )
 }
 
 // What is left where the input ends: the line of a carried constant, and that of a tail of so many bytes.
-fn last<H: Print + Eprint>(rt: &H, count: usize, at: u64, carried: Carried, out: &mut [u8]) {
-    let n = rest(carried, out);
+fn last<H: Print + Eprint>(rt: &H, count: usize, next: Place, out: &mut [u8]) {
+    let n = rest(next.carried, out);
     if count == 0 {
         if n <= out.len() {
             written(rt, &out[..n]);
         }
         return;
     }
-    let offset = at % 0x4000_0000_0000_0000 * 4;
+    let offset = next.at % 0x4000_0000_0000_0000 * 4;
     let m = lines::line(Answer::Cut(offset), out, n);
     if m <= out.len() {
         written(rt, &out[..m]);
@@ -220,38 +145,29 @@ fn last<H: Print + Eprint>(rt: &H, count: usize, at: u64, carried: Carried, out:
     tell_cut(rt, offset);
 }
 
-// A block of the input. Only the last one is not full, and only that one has a tail, which is cut where the input ended.
+// A block of the input, and what stands behind it. Only the last one is not full, and only that one has a tail, which is cut where the input ended.
 fn block<R: Read, H: Print + Eprint>(
     rt: &H,
     input: &mut R,
     buf: &mut [u8],
     words: &mut [u32],
     out: &mut [u8],
-    at: u64,
-    carried: Carried,
-) -> Next
+    from: Place,
+) -> Option<Place>
     requires { (length buf.old / 4 ≤ length words.old) × (320 ≤ length out.old) }
-    ensures { result.over ≡ false → Passed (words_of buf.new) at carried result.at result.carried }
+    ensures { IfSome result (λ next. Passed (words_of buf.new) from.at from.carried next.at next.carried) }
 {
-    let f = fill(rt, input, buf);
+    let f = streams::fill(rt, input, buf);
     let n = f.count;
     let k = gather(&buf[..n], words);
-    let next = pass(rt, &words[..k], at, carried, out);
-    if next.over {
-        return next;
+    let next = pass(rt, &words[..k], from, out)?;
+    if n == buf.len() {
+        return Some(next);
     }
-    if n < buf.len() {
-        let left = next.carried;
-        if !f.failed {
-            last(rt, n % 4, next.at, left, out);
-        }
-        return Next {
-            at: next.at,
-            carried: left,
-            over: true,
-        };
+    if !f.failed {
+        last(rt, n % 4, next, out);
     }
-    next
+    None
 }
 
 fn block_in<R: Read, H: Print + Eprint>(
@@ -260,10 +176,9 @@ fn block_in<R: Read, H: Print + Eprint>(
     buf: &mut [u8; 65536],
     words: &mut [u32; 16384],
     out: &mut [u8; 65536],
-    next: Next,
-) -> Next {
-    let carried = next.carried;
-    block(rt, input, buf, words, out, next.at, carried)
+    from: Place,
+) -> Option<Place> {
+    block(rt, input, buf, words, out, from)
 }
 
 // Tells every item of the input's words on standard output. It is lent the host and the input and answers nothing; what it prints is compared.
@@ -273,15 +188,14 @@ pub fn run_all<R: Read, H: Print + Eprint>(rt: &H, input: &mut R)
     let mut buf = [0u8; 65536];
     let mut words = [0u32; 16384];
     let mut out = [0u8; 65536];
-    let mut next = Next {
+    let mut from = Place {
         at: 0,
-        carried: Carried::Nothing,
-        over: false,
+        carried: None,
     };
     for _ in 0..u64::MAX {
-        next = block_in(rt, input, &mut buf, &mut words, &mut out, next);
-        if next.over {
+        let Some(next) = block_in(rt, input, &mut buf, &mut words, &mut out, from) else {
             break;
-        }
+        };
+        from = next;
     }
 }

@@ -1,5 +1,6 @@
 -- A turn of the loop that prints a block. Assumes nothing.
-use Rattle.std.proofs.Common.{◌≡◌, ℕ, zero, suc, ◌+◌, ◌-◌, ◌*◌, ◌/◌, ◌%◌, ◌^◌, ◌<◌, ◌≤◌, Bool, false, List, [], ◌∷◌, ◌++◌, length, get_or, take, drop, sym, refl, ap, ◌∙◌, add-one, arith, length-append, length-drop, length-take, take-suc}
+use Rattle.std.proofs.Common.{◌≡◌, ℕ, zero, suc, ◌+◌, ◌-◌, ◌*◌, ◌/◌, ◌%◌, ◌^◌, ◌<◌, ◌≤◌, Bool, false, List, [], ◌∷◌, ◌++◌, length, get_or, take, drop, sym, refl, ap, ◌∙◌, add-one, arith, length-append, length-drop, length-take, take-suc, drop-drop}
+use Rattle.std.specs.Simd.{first_chunks}
 use lib.Seq.{sets, length-sets}
 use Rattle.words.proofs.Runs.{sets_append}
 use Rattle.lines.specs.Item.{Item, items_of}
@@ -14,6 +15,17 @@ use Rattle.batches.specs.Printed.{ends_of, Upto}
 use Rattle.lines.proofs.Lines.{any_line, texts_append}
 
 -- ---- twelve bytes by value
+
+record_at : (k i : ℕ) (d bs : List ℕ) → i < k → get_or (first_chunks 12 k bs) i d ≡ take 12 (drop (12 * i) bs)
+record_at zero i d bs h = absurd (omega arith)
+record_at (suc k) zero d bs h = refl
+record_at (suc k) (suc i) d bs h =
+    let e : 12 + 12 * i ≡ 12 * suc i = omega arith in
+    record_at k i d (drop 12 bs) (omega arith) ∙ ap (take 12) (drop-drop (12 * i) 12 bs) ∙ ap (λ (n : ℕ). take 12 (drop n bs)) e
+
+-- the record at an index of those that a block has
+pub record_is : (bs d : List ℕ) {rs : List (List ℕ)} {k i : ℕ} {n : ℕ} → rs ≡ first_chunks 12 k bs → i < k → n ≡ 12 * i → get_or rs i d ≡ take 12 (drop n bs)
+record_is bs d {k = k} {i = i} e h t = ap (λ (l : List (List ℕ)). get_or l i d) e ∙ record_at k i d bs h ∙ ap (λ (n : ℕ). take 12 (drop n bs)) (sym t)
 
 abbrev pub firsts : ℕ → List ℕ → List ℕ
 firsts zero l = []

@@ -1,18 +1,18 @@
 -- What the entries say from a target and the address of the instruction. Assumes nothing.
-use Rattle.std.specs.Prelude.{ℕ, ◌+◌, ◌-◌, ◌%◌, ◌^◌, cond, List, ℤ, ◌==◌}
+use Rattle.std.specs.Prelude.{ℕ, ◌+◌, ◌-◌, ◌%◌, ◌^◌, cond, List, ℤ, ◌==◌, Option as Carries, Some, None, Result}
 use Rattle.std.proofs.Math.Option.{Option, some, none}
 use Rattle.std.specs.Int.{w64}
 use Rattle.std.proofs.Common.{to_z}
 use Rattle.words.specs.Said.{Said, ok, no}
-use Rattle.words.specs.Answer.{number_of}
+use Rattle.words.specs.Answer.{said_as}
 use Rattle.words.specs.Listed.{list_of}
 use Rattle.words.specs.declared.Place.{Place}
+use Rattle.words.specs.declared.Refusal.{Refusal}
 use Rattle.words.specs.declared.Words.{Words}
 use Rattle.displacements.specs.Answer.{disp_said}
+use Rattle.disp_targets.specs.declared.Low12.{Low12}
 use Rattle.disp_targets.specs.declared.TargetWord.{TargetWord}
-use Rattle.disp_targets.specs.declared.TargetWord.TheVariants.{Word, PageWord, NoWord}
 use Rattle.disp_targets.specs.declared.TargetWritten.{TargetWritten}
-use Rattle.disp_targets.specs.declared.TargetWritten.TheVariants.{Wrote, WrotePage, NotWritten}
 
 -- "For ADRP the address first loses its low 12 bits", and the target's "are cleared before the distance is taken, as the address's are"
 abbrev pub page_of : ℕ → ℕ → ℕ
@@ -38,17 +38,18 @@ carrying l (no n) = no n
 abbrev pub carried : {A : Type 0} → Option ℕ → Said A × List ℕ → Said (A × Option ℕ) × List ℕ
 carried l (x, ws) = (carrying l x, ws)
 
+-- low bits in an answer, or none
+abbrev pub low_said : Carries Low12 → Option ℕ
+low_said (Some l) = some l.0
+low_said None = none
+
 -- the target entry's answer by value says words, and at format 4 low bits
-abbrev pub word_said : TargetWord → Said (Words × Option ℕ)
-word_said (Word f) = ok (f, none)
-word_said (PageWord f l) = ok (f, some l.0)
-word_said (NoWord r) = no (number_of r)
+abbrev pub word_said : Result TargetWord Refusal → Said (Words × Option ℕ)
+word_said = said_as (λ w. (w.words, low_said w.low))
 
 -- and written, a place
-abbrev pub written_said : TargetWritten → Said (Place × Option ℕ)
-written_said (Wrote p) = ok (p, none)
-written_said (WrotePage p l) = ok (p, some l.0)
-written_said (NotWritten r) = no (number_of r)
+abbrev pub written_said : Result TargetWritten Refusal → Said (Place × Option ℕ)
+written_said = said_as (λ w. (w.past, low_said w.low))
 
 -- a target's word by value, put by a writer into a run: what the writer says of it with the low bits beside it, or what it says of the refusal
 abbrev pub put_to : (Said (List ℕ) → Said Place × List ℕ) → Said (Words × Option ℕ) → Said (Place × Option ℕ) × List ℕ

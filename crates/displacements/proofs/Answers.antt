@@ -8,8 +8,7 @@ use Rattle.words.specs.declared.Refusal.TheVariants.{Unknown, WrongForm, Taken, 
 use Rattle.forms.specs.Form.{is_of_form, Formed}
 use Rattle.arm.proofs.Tests.{never}
 use Rattle.words.proofs.Answers.{Short, Alone, Numbered, alone_short}
-use Rattle.displacements.specs.declared.Form.{Form}
-use Rattle.displacements.specs.Forms.{form_of, field_in, put_in, step, reach, least, greatest}
+use Rattle.displacements.specs.Forms.{Form, form_of, field_in, put_in, step, reach, least, greatest}
 use Rattle.displacements.specs.Answer.{place_said, steps_of, disp_said}
 use Rattle.displacements.specs.Private.{Sound}
 use Rattle.displacements.specs.Says.{Says, unknown, alien, taken, off, far, word, Based, Free, OnStep, InRange}

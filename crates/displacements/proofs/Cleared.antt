@@ -6,8 +6,7 @@ use lib.Arith.{digits_div, digits_mod}
 use lib.ListN.{get_or-eq_default}
 use Rattle.words.proofs.Fields.{part, part_below, part_above, part_le, taken_out}
 use Rattle.forms.specs.Form.{is_of_form}
-use Rattle.displacements.specs.declared.Form.{Form}
-use Rattle.displacements.specs.Forms.{forms, form_of, field_in, put_in, clear_in}
+use Rattle.displacements.specs.Forms.{Form, forms, form_of, field_in, put_in, clear_in}
 use Rattle.displacements.specs.Private.{Sound}
 use Rattle.displacements.proofs.Laws.{sound, field_lt, Outside, put_there, put_kept}
 use Rattle.displacements.proofs.Kept.{forms_kept}

@@ -15,8 +15,7 @@ use Rattle.words.proofs.Answers.{Alone, not_both}
 use Rattle.words.proofs.Fields.{part, bit, bit_of_clear, clear_of_bits}
 use Rattle.forms.proofs.Instructions.{one_form}
 use Rattle.writers.proofs.Writes.{put_exactly, put_answers, put_15, put-done}
-use Rattle.displacements.specs.declared.Form.{Form}
-use Rattle.displacements.specs.Forms.{forms, form_of, field_in, put_in, step, reach, least, greatest}
+use Rattle.displacements.specs.Forms.{Form, forms, form_of, field_in, put_in, step, reach, least, greatest}
 use Rattle.displacements.specs.Answer.{steps_of, place_said, disp_said, offset, read_said}
 use Rattle.displacements.specs.Private.{Sound, offset_in}
 use Rattle.displacements.specs.Says.{Says, unknown, alien, taken, off, far, word, Based, Free, OnStep, InRange}

@@ -4,8 +4,7 @@ use Rattle.arm.specs.FixedBits.{is_bcond, is_cbz}
 use Rattle.words.proofs.Fields.{part}
 use Rattle.forms.specs.Form.{is_of_form}
 use Rattle.forms.proofs.Formats.{each}
-use Rattle.displacements.specs.declared.Form.{Form}
-use Rattle.displacements.specs.Forms.{form_of}
+use Rattle.displacements.specs.Forms.{Form, form_of}
 use Rattle.displacements.proofs.Laws.{Outside}
 
 -- a slice above a field without low bits, and those around the low bits of ADR and ADRP

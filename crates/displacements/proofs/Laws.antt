@@ -7,8 +7,7 @@ use Rattle.arm.proofs.SignExtends.{power}
 use Rattle.words.proofs.Fields.{part, part_below, part_there, part_above, high_kept}
 use Rattle.words.proofs.Low.{least_below}
 use Rattle.forms.proofs.Formats.{each}
-use Rattle.displacements.specs.declared.Form.{Form}
-use Rattle.displacements.specs.Forms.{form_of, field_in, put_in, step}
+use Rattle.displacements.specs.Forms.{Form, form_of, field_in, put_in, step}
 use Rattle.displacements.specs.Answer.{offset}
 use Rattle.displacements.specs.Private.{offset_in, Sound}
 

@@ -1,15 +1,14 @@
 -- What the entries say. Assumes nothing.
-use Rattle.std.specs.Prelude.{ℕ, ◌/◌, ◌%◌, ◌^◌, cond, not, ◌||◌, List, [], ◌∷◌, ℤ, int_lt, nat_lt, slice_index, unsigned_abs}
+use Rattle.std.specs.Prelude.{ℕ, ◌/◌, ◌%◌, ◌^◌, cond, not, ◌||◌, List, [], ◌∷◌, ℤ, int_lt, nat_lt, slice_index, unsigned_abs, Result}
 use Rattle.std.specs.Int.{w64}
 use Rattle.std.proofs.Common.{to_z, of_z}
 use Rattle.arm.specs.Displacements.{B, Bcond, TBZ, ADR, ADRP, LDR}
 use Rattle.words.specs.Said.{Said, ok, no}
-use Rattle.words.specs.Answer.{number_of}
+use Rattle.words.specs.Answer.{said_as}
 use Rattle.forms.specs.Form.{is_of_form}
-use Rattle.displacements.specs.declared.Form.{Form}
-use Rattle.displacements.specs.declared.DistanceAnswer.{DistanceAnswer}
-use Rattle.displacements.specs.declared.DistanceAnswer.TheVariants.{Distance, NoDistance}
-use Rattle.displacements.specs.Forms.{form_of, field_in, put_in, step, least, greatest}
+use Rattle.displacements.specs.Forms.{Form, form_of, field_in, put_in, step, least, greatest}
+use Rattle.words.specs.declared.Refusal.{Refusal}
+use Rattle.words.specs.declared.ByteDistance.{ByteDistance}
 
 -- ---- writing: order 7, 11, 6, 4, 5
 
@@ -43,6 +42,5 @@ abbrev pub read_said : ℕ → ℕ → Said ℤ
 read_said w n = cond (nat_lt 5 n) (no 7) (ok (to_z w64 (offset n w)))
 
 -- the reader's answer says a distance
-abbrev pub distance_said : DistanceAnswer → Said ℤ
-distance_said (Distance d) = ok d.0
-distance_said (NoDistance r) = no (number_of r)
+abbrev pub distance_said : Result ByteDistance Refusal → Said ℤ
+distance_said = said_as (λ d. d.0)

@@ -1,9 +1,15 @@
 -- The six formats, and the field of a word at a format. Assumes nothing.
 use Rattle.std.specs.Prelude.{ℕ, ◌+◌, ◌-◌, ◌*◌, ◌/◌, ◌%◌, ◌^◌, List, [], ◌∷◌, ℤ, pos, negsuc, slice_index_or}
-use Rattle.displacements.specs.declared.Form.{Form}
 
 -- distances in steps of 2 ^ scale bytes, in a field of `bits` bits, of which the low ones, `low` in number, stand at bit 29 and the rest at
--- bit `at`: branch 26, branch 19, branch 14, ADR 21, ADRP 21, LDR 19
+-- bit `at`
+pub record Form : Type 0 where
+  pub scale : ℕ
+  pub bits : ℕ
+  pub low : ℕ
+  pub at : ℕ
+
+-- branch 26, branch 19, branch 14, ADR 21, ADRP 21, LDR 19
 abbrev pub forms : List Form
 forms =
     record { scale = 2; bits = 26; low = 0; at = 0 }

@@ -3,3 +3,4 @@ pub mod Forms
 pub mod Answer
 pub mod Says
 pub mod Private
+pub mod Shape

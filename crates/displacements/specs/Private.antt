@@ -1,8 +1,7 @@
 -- What only the contracts of private functions cite. Assumes nothing.
 use Rattle.std.specs.Prelude.{ℕ, ◌+◌, ◌-◌, ◌*◌, ◌<◌, ◌≤◌}
 use Rattle.arm.specs.Bits.{SignExtend}
-use Rattle.displacements.specs.declared.Form.{Form}
-use Rattle.displacements.specs.Forms.{field_in, step}
+use Rattle.displacements.specs.Forms.{Form, field_in, step}
 
 -- the 64 bits of the distance of a word
 abbrev pub offset_in : Form → ℕ → ℕ

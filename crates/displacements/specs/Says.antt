@@ -2,8 +2,7 @@
 use Rattle.std.specs.Prelude.{◌≡◌, ℕ, ◌%◌, ◌<◌, ◌≤◌, List, [], ◌∷◌, ℤ, ◌≤ℤ◌, unsigned_abs}
 use Rattle.words.specs.Said.{Said, ok, no}
 use Rattle.forms.specs.Form.{Formed}
-use Rattle.displacements.specs.declared.Form.{Form}
-use Rattle.displacements.specs.Forms.{form_of, field_in, put_in, step, least, greatest}
+use Rattle.displacements.specs.Forms.{Form, form_of, field_in, put_in, step, least, greatest}
 use Rattle.displacements.specs.Answer.{steps_of}
 
 -- a format there is, and a base of its form

@@ -21,7 +21,7 @@ use Rattle.forms.specs.Private.{none, fixeds, fixed_of}
 use Rattle.forms.proofs.Formats.{each}
 
 -- from 6 on there is no format
-no_format : (w n : ℕ) → 6 ≤ n → is_of_form n w ≡ false
+pub no_format : (w n : ℕ) → 6 ≤ n → is_of_form n w ≡ false
 unfolding is_of_form
 no_format w n h = get_or-eq_default (is_b w ∷ (is_bcond w || is_cbz w) ∷ is_tbz w ∷ is_adr w ∷ is_adrp w ∷ is_ldr w ∷ []) false {n = n} h
 

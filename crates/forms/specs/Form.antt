@@ -2,9 +2,6 @@
 use Rattle.std.specs.Prelude.{◌≡◌, Bool, true, false, cond, ◌||◌, [], ◌∷◌, ℕ, ltb, get_or}
 use Rattle.arm.specs.FixedBits.{is_b, is_bcond, is_cbz, is_tbz, is_adr, is_adrp, is_ldr}
 use Rattle.words.specs.Said.{Said, ok, no}
-use Rattle.words.specs.Answer.{number_of}
-use Rattle.forms.specs.declared.FormAnswer.{FormAnswer}
-use Rattle.forms.specs.declared.FormAnswer.TheVariants.{OfForm, NoForm}
 
 -- "the fixed bits of an instruction of that form (B and BL; B.cond, CBZ and CBNZ; TBZ and TBNZ; ADR; ADRP; LDR, LDRSW and PRFM literal, including
 -- the SIMD ones)"
@@ -18,8 +15,3 @@ Formed n w = is_of_form n w ≡ true
 -- whether it is, or refusal 7
 abbrev pub form_said : ℕ → ℕ → Said Bool
 form_said n w = cond (ltb 5 n) (no 7) (ok (is_of_form n w))
-
--- the test's answer says yes or no
-abbrev pub of_form_said : FormAnswer → Said Bool
-of_form_said (OfForm b) = ok b
-of_form_said (NoForm r) = no (number_of r)

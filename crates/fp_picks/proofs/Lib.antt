@@ -1,5 +1,4 @@
--- The laws of opcode picks, and what the contract amounts to.
-pub mod Laws
+-- That the contract of opcode picks allows one answer, and what it amounts to.
 pub mod Determined
 pub mod Demands
 pub mod Examples

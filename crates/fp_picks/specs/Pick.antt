@@ -1,17 +1,16 @@
 -- What `pick_fp_opcode` says. Assumes nothing.
-use Rattle.std.specs.Prelude.{ℕ, ◌+◌, ◌-◌, ◌^◌, cond, ◌&&◌, List, [], ◌∷◌, ◌==◌, bit_or, bit_xor, nat_lt, slice_index, slice_index_or}
+use Rattle.std.specs.Prelude.{ℕ, ◌+◌, ◌-◌, ◌^◌, cond, ◌&&◌, List, [], ◌∷◌, ◌==◌, bit_or, bit_xor, nat_lt, Result, slice_index, slice_index_or}
 use Rattle.words.specs.Said.{Said, ok, no}
-use Rattle.words.specs.Answer.{number_of}
+use Rattle.words.specs.Answer.{said_as}
 use Rattle.words.specs.Bit.{bit_of}
 use Rattle.fp_picks.specs.declared.FpRow.{FpRow}
-use Rattle.fp_picks.specs.declared.PickAnswer.{PickAnswer}
-use Rattle.fp_picks.specs.declared.PickAnswer.TheVariants.{Picked, NoPick}
+use Rattle.fp_picks.specs.declared.Picked.{Picked}
+use Rattle.words.specs.declared.Refusal.{Refusal}
 use Rattle.simd.specs.Kinds.{Vec16, Vec64, Vec128, none, H, D, within}
 
 -- "the word and the size, 0, 1 or 2"
-abbrev pub pick_said : PickAnswer → Said (ℕ × ℕ)
-pick_said (Picked w size) = ok (w.0, size)
-pick_said (NoPick r) = no (number_of r)
+abbrev pub pick_said : Result Picked Refusal → Said (ℕ × ℕ)
+pick_said = said_as (λ p. (p.word.0, p.size))
 
 -- "the six rows": the sizes, H 1, S 2, D 4; the words at H, S, D
 abbrev row : ℕ → ℕ → ℕ → ℕ → FpRow
@@ -32,11 +31,14 @@ abbrev pub row_at : ℕ → FpRow
 row_at n = slice_index_or rows n (record { sizes = 0; xor = [] })
 
 -- 3 where the row lacks the size; then 10 for a zero base; then the row's word xor the opcode word
-unfoldable pub word_of : ℕ → ℕ → ℕ → ℕ → Said (ℕ × ℕ)
-word_of n size base word =
-    cond (bit_of (row_at n).sizes size)
-    (cond (base == 0) (no 10) (ok (bit_xor (slice_index (row_at n).xor size) word, size)))
+abbrev pub word_in : FpRow → ℕ → ℕ → ℕ → Said (ℕ × ℕ)
+word_in r size base word =
+    cond (bit_of r.sizes size)
+    (cond (base == 0) (no 10) (ok (bit_xor (slice_index r.xor size) word, size)))
     (no 3)
+
+unfoldable pub word_of : ℕ → ℕ → ℕ → ℕ → Said (ℕ × ℕ)
+word_of n = word_in (row_at n)
 
 -- "Scalar (element none): Vec16, Vec32, Vec64; row word xor base"
 unfoldable pub scalar_of : ℕ → ℕ → ℕ → Said (ℕ × ℕ)

@@ -5,7 +5,7 @@ use Rattle.halfwords.proofs.count_half_words_64.Reads as count_half_words_64
 use Rattle.halfwords.proofs.count_zero_half_words_64.Reads as count_zero_half_words_64
 
 pub cut_determined : OneAnswer cut.Post
-cut_determined k a r s x y p q = rw (p.at_0, p.at_1, p.at_2, p.at_3, q.at_0, q.at_1, q.at_2, q.at_3)
+cut_determined k a r s x y p q = one_answer p q
 
 pub count_half_words_64_determined : OneAnswer count_half_words_64.Post
 count_half_words_64_determined k a r s x y p q = rw (p.zeros, p.ones, q.zeros, q.ones)

@@ -1,13 +1,16 @@
 -- A pass over the halfwords of a value, by how many it has passed. Assumes nothing.
 use mathlib.Core.Path.{◌≡◌, refl}
+use mathlib.Core.List.{List}
 use mathlib.Core.Bool.{Bool, true, false, cond}
-use Prim.Native.Nat.{ℕ, zero, suc, ◌+◌, ◌*◌, ◌/◌, ◌%◌, ◌^◌, ◌<◌}
+use Prim.Native.Nat.{ℕ, zero, suc, ◌+◌, ◌*◌, ◌/◌, ◌%◌, ◌^◌, ◌<◌, ◌≤◌}
 use native.Mathlib.Numerals.{add-one}
 use native.Mathlib.Omega.{arith}
 use borrow.Author.Tests.{eqb-true, eqb-false}
 use lib.Dec.{eqb}
+use lib.ListN.{get_or}
 use lib.Pow.{shr-shr}
-use Rattle.halfwords.specs.Halfwords.{half, same, count}
+use mir.Val.{bool_byte}
+use Rattle.halfwords.specs.Halfwords.{half, same, count, Halved}
 
 -- how many of the lowest n halfwords are f
 abbrev pub among : ℕ → ℕ → ℕ → ℕ
@@ -29,6 +32,22 @@ up n v left = let e : 16 * (n + 1) ≡ 16 * n + 16 = omega arith in rw (left, e,
 pub all_four : (f v : ℕ) {n c : ℕ} → n ≡ 4 → c ≡ among f n v → c ≡ count f v
 unfolding count
 all_four f v n c = rw (c, n) (omega arith)
+
+-- the halfword that the pass is at
+pub at_index : (v k : ℕ) {l : List ℕ} → Halved v l → k < 4 → get_or l k 0 ≡ half v k
+at_index v zero e h = rw e
+at_index v (suc zero) e h = rw e
+at_index v (suc (suc zero)) e h = rw e
+at_index v (suc (suc (suc zero))) e h = rw e
+at_index v (suc (suc (suc (suc k)))) e h = absurd (omega arith)
+
+-- told by a test
+pub told : (f v k : ℕ) {l : List ℕ} {r : ℕ} → Halved v l → k < 4 → r ≡ bool_byte (eqb (get_or l k 0) f) → (r ≡ same f (half v k)) × (r ≤ 1)
+told f v k {l} {r} e h t = rw (← at_index v k e h) (go (eqb (get_or l k 0) f) t)
+  where
+    go : (b : Bool) → r ≡ bool_byte b → (r ≡ cond b 1 0) × (r ≤ 1)
+    go true t = (t, omega arith)
+    go false t = (t, omega arith)
 
 -- FFFF alone carries with 1 more
 pub carries : (h : ℕ) → h < 2 ^ 16 → (h + 1) / 2 ^ 16 ≡ same 0xFFFF h

@@ -1,6 +1,5 @@
 -- The halfwords of a value and their count; document 01's sentence stands in quotes. Assumes nothing.
-use Rattle.std.specs.Prelude.{◌≡◌, cond, ℕ, ◌+◌, ◌*◌, ◌/◌, ◌%◌, ◌^◌, ◌≤◌, eqb}
-use Rattle.halfwords.specs.declared.Halves.{Halves}
+use Rattle.std.specs.Prelude.{◌≡◌, cond, List, [], ◌∷◌, ℕ, ◌+◌, ◌*◌, ◌/◌, ◌%◌, ◌^◌, eqb}
 use Rattle.halfwords.specs.declared.Counts.{Counts}
 
 -- "A 64-bit value is cut into four 16-bit halfwords": number k, from the lowest on
@@ -16,16 +15,12 @@ count f v = same f (half v 0) + same f (half v 1) + same f (half v 2) + same f (
 
 -- ---- what the functions give
 
--- each halfword as a u32
-pub record Halved (v : ℕ) (r : Halves) : Type 0 where
-  pub at_0 : r.0 ≡ half v 0
-  pub at_1 : r.1 ≡ half v 1
-  pub at_2 : r.2 ≡ half v 2
-  pub at_3 : r.3 ≡ half v 3
+-- each halfword as a u32, lowest first
+abbrev pub halves : ℕ → List ℕ
+halves v = half v 0 ∷ half v 1 ∷ half v 2 ∷ half v 3 ∷ []
 
-pub record Tested (f h r : ℕ) : Type 0 where
-  pub is : r ≡ same f h
-  pub small : r ≤ 1
+abbrev pub Halved : ℕ → List ℕ → Type 0
+Halved v r = r ≡ halves v
 
 -- how many are zero and how many are FFFF
 pub record Counted (v : ℕ) (r : Counts) : Type 0 where

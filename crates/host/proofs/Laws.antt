@@ -7,21 +7,21 @@ use native.Mathlib.Omega.{arith}
 use lib.IntN.{ℤ, pos}
 use lib.ListN.{length, length-take}
 use Rattle.words.specs.Said.{Said, ok, no}
-use Rattle.words.specs.Answer.{said, made}
+use Rattle.words.specs.Answer.{said}
 use Rattle.words.specs.Listed.{listed, packed}
 use Rattle.words.specs.Place.{pos_of}
 use Rattle.writers.specs.Put.{put_bytes_of}
 use Rattle.writers.specs.Says.{unaligned, refused, full, done, PutsBytes}
 use Rattle.words.specs.declared.Place.{Place}
 use Rattle.words.specs.declared.Words.{Words}
-use Rattle.words.specs.declared.Worded.{Worded}
-use Rattle.words.specs.declared.Written.{Written}
 use Rattle.words.proofs.Answers.{Short}
 use Rattle.writers.proofs.Writes.{Answer, bytes_says, bytes_no}
 use Rattle.disp_targets.specs.Target.{target_said, low_of, carrying, carried}
 use Rattle.disp_targets.proofs.Targets.{put_target_lem}
 use Rattle.host.specs.Number.{told, counted, host_of, host_put, counted_to, host_to_of, host_put_to, host_target}
 use Rattle.host.specs.Private.{Near}
+use Rattle.std.specs.Prelude.{Result}
+use Rattle.words.specs.declared.Refusal.{Refusal}
 
 -- words by value are four at most
 list_short : (x : Said Words) → Short (listed x)
@@ -37,15 +37,15 @@ put_near l at x h = go (bytes_says l at x)
     go (full vs a e f) = tt
     go (done vs a e f) = let s : length vs ≤ 4 = subst Short e h in omega arith
 
-module _ (l : List ℕ) (at : Place) (m : Worded) (w : Written) (l' : List ℕ) (put : (said w, l') ≡ put_bytes_of l at (listed (made m))) where
+module _ (l : List ℕ) (at : Place) (m : (Result Words Refusal)) (w : (Result Place Refusal)) (l' : List ℕ) (put : (said w, l') ≡ put_bytes_of l at (listed (said m))) where
   pub near : Near at (said w)
-  near = subst (Near at) (sym (ap (λ (k : Answer). k.0) put)) (put_near l at (listed (made m)) (list_short (made m)))
+  near = subst (Near at) (sym (ap (λ (k : Answer). k.0) put)) (put_near l at (listed (said m)) (list_short (said m)))
 
-  pub hosted : {n : ℕ} → n ≡ told (counted at (said w)) → (n, l') ≡ host_put l at (listed (made m))
+  pub hosted : {n : ℕ} → n ≡ told (counted at (said w)) → (n, l') ≡ host_put l at (listed (said m))
   hosted r = ap (λ (k : ℕ). (k, l')) r ∙ ap (host_of at) put
 
   -- with the low bits of a target
-  pub hosted_page : {n : ℕ} (k : ℕ) → n ≡ told (counted_to at (carrying (some k) (said w))) → (n, l') ≡ host_put_to l at (some k) (listed (made m))
+  pub hosted_page : {n : ℕ} (k : ℕ) → n ≡ told (counted_to at (carrying (some k) (said w))) → (n, l') ≡ host_put_to l at (some k) (listed (said m))
   hosted_page k r = ap (λ (j : ℕ). (j, l')) r ∙ ap (λ (z : Answer). host_to_of at (carried (some k) z)) put
 
 -- the words by value are those that are asked for

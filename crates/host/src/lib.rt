@@ -4,25 +4,24 @@
 #![tactic(auto)]
 
 ghost use Rattle.std.specs.Prelude.{◌≡◌};
-ghost use Rattle.std.proofs.Math.Option.{some};
 ghost use Rattle.words.specs.Said.{Said};
-ghost use Rattle.words.specs.Answer.{number_of, said, made};
-ghost use Rattle.words.specs.Listed.{list_of, listed};
+ghost use Rattle.words.specs.Answer.{number_of, said};
+ghost use Rattle.words.specs.Listed.{listed};
 ghost use Rattle.words.specs.Place.{place_at};
 ghost use Rattle.moves.specs.Moves.{mov_said};
 ghost use Rattle.patchable_moves.specs.Patchable.{patch_said};
-ghost use Rattle.disp_targets.specs.Target.{carrying, word_said};
-ghost use Rattle.host.specs.Number.{told, counted, host_put, counted_to, host_put_to, host_target, yes_no};
+ghost use Rattle.disp_targets.specs.Target.{carrying, low_said, word_said};
+ghost use Rattle.host.specs.Number.{told, host_put, counted_to, host_put_to, host_target, yes_no};
 ghost use Rattle.host.specs.Private.{Near};
 
 use disp_targets::{Low12, TargetWord};
-use words::{Address, Place, Refusal, WordPos, Worded, Words, Written};
+use words::{Address, Place, Refusal, WordPos, Words};
 
 // A refusal has no value.
 pub fn refused(r: Refusal) -> u64
     ensures { result ≡ number_of r }
 {
-    words::number(r) as u64
+    u64::from(words::number(r))
 }
 
 // The place of a base address and a position.
@@ -35,51 +34,47 @@ pub fn place(base: u64, position: usize) -> Place
     }
 }
 
-// The number of words that a writer put from a place on, or its refusal.
-fn written(at: Place, w: Written) -> u64
+// The number of words that a writer put from a place on, with the low bits of a target above it, or the writer's refusal.
+fn written(at: Place, w: Result<Place, Refusal>, low: Option<Low12>) -> u64
     requires { Near at (said w) }
-    ensures { result ≡ told (counted at (said w)) }
+    ensures { result ≡ told (counted_to at (carrying (low_said low) (said w))) }
 {
     match w {
-        Written::Done(p) => ((p.position.0 - at.position.0) * 256) as u64,
-        Written::No(r) => refused(r),
+        Ok(p) => {
+            let count = (p.position.0 - at.position.0) as u64;
+            count * 256 + low.map_or(0, |l| u64::from(l.0) * 65536)
+        }
+        Err(r) => refused(r),
     }
+}
+
+// Words by value, from a place on, and the low bits of a target.
+fn put_with(bytes: &mut [u8], at: Place, m: Result<Words, Refusal>, low: Option<Low12>) -> u64
+    ensures { (result, bytes.new) ≡ host_put_to bytes.old at (low_said low) (listed (said m)) }
+{
+    written(at, writers::put_bytes(bytes, at, m), low)
 }
 
 // Words by value, from a place on.
-pub fn put(bytes: &mut [u8], base: u64, position: usize, m: Worded) -> u64
-    ensures { (result, bytes.new) ≡ host_put bytes.old (place_at base position) (listed (made m)) }
+pub fn put(bytes: &mut [u8], base: u64, position: usize, m: Result<Words, Refusal>) -> u64
+    ensures { (result, bytes.new) ≡ host_put bytes.old (place_at base position) (listed (said m)) }
 {
-    let at = place(base, position);
-    written(at, writers::put_bytes(bytes, at, m))
-}
-
-// The same with the low bits of a target above the number of words.
-fn written_page(at: Place, w: Written, low: Low12) -> u64
-    requires { Near at (said w) }
-    ensures { result ≡ told (counted_to at (carrying (some low.0) (said w))) }
-{
-    match w {
-        Written::Done(p) => ((p.position.0 - at.position.0) * 256) as u64 + low.0 as u64 * 65536,
-        Written::No(r) => refused(r),
-    }
-}
-
-fn put_page(bytes: &mut [u8], base: u64, position: usize, f: Words, low: Low12) -> u64
-    ensures { (result, bytes.new) ≡ host_put_to bytes.old (place_at base position) (some low.0) (Said.ok (list_of f)) }
-{
-    let at = place(base, position);
-    written_page(at, writers::put_bytes(bytes, at, Worded::Made(f)), low)
+    put_with(bytes, place(base, position), m, None)
 }
 
 // A target's word by value, or its refusal, from a place on.
-pub fn put_target(bytes: &mut [u8], base: u64, position: usize, m: TargetWord) -> u64
+pub fn put_target(
+    bytes: &mut [u8],
+    base: u64,
+    position: usize,
+    m: Result<TargetWord, Refusal>,
+) -> u64
     ensures { (result, bytes.new) ≡ host_target bytes.old (place_at base position) (word_said m) }
 {
+    let at = place(base, position);
     match m {
-        TargetWord::Word(f) => put(bytes, base, position, Worded::Made(f)),
-        TargetWord::PageWord(f, low) => put_page(bytes, base, position, f, low),
-        TargetWord::NoWord(r) => put(bytes, base, position, Worded::Not(r)),
+        Ok(w) => put_with(bytes, at, Ok(w.words), w.low),
+        Err(r) => put_with(bytes, at, Err(r), None),
     }
 }
 

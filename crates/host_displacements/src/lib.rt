@@ -8,8 +8,6 @@ ghost use Rattle.disp_targets.specs.Target.{target_said, low_of};
 ghost use Rattle.forms.specs.Form.{form_said};
 ghost use Rattle.host.specs.Number.{told, host_put, host_put_to, yes_no};
 
-use displacements::DistanceAnswer;
-use forms::FormAnswer;
 use words::{Address, ByteDistance, Opc};
 
 // A distance in bytes into a base word at a format: 15, 7, 11, 6, 4, 5, 8.
@@ -52,18 +50,15 @@ pub fn vaimalofo_displacement_to(
 pub fn vaimalofo_has_form(format: u32, word: u32) -> u64
     ensures { result ≡ told (yes_no (form_said format word)) }
 {
-    match forms::has_form(format, Opc(word)) {
-        FormAnswer::OfForm(b) => host::yes(b),
-        FormAnswer::NoForm(r) => host::refused(r),
-    }
+    forms::has_form(format, Opc(word)).map_or_else(host::refused, host::yes)
 }
 
 // The distance in bytes that a word spells at a format: 7.
 pub fn vaimalofo_read_displacement(word: u32, format: u32) -> u64
     ensures { result ≡ told (read_said word format) }
 {
-    match displacements::read_disp(Opc(word), format) {
-        DistanceAnswer::Distance(d) => words::bits_of(d.0) << 8,
-        DistanceAnswer::NoDistance(r) => host::refused(r),
-    }
+    displacements::read_disp(Opc(word), format).map_or_else(
+        host::refused,
+        |d| words::bits_of(d.0) << 8,
+    )
 }

@@ -13,9 +13,9 @@ use Rattle.displacements.specs.Answer.{offset}
 use Rattle.disp_targets.specs.Target.{page_of}
 use Rattle.labels.specs.declared.Use.{Use}
 use Rattle.labels.specs.Order.{first, answer}
-use Rattle.labels.specs.Sheet.{room_for, names, bind_tests, bind_of, use_record, use_of, target, finish_of, filled}
+use Rattle.labels.specs.Sheet.{none, room_for, names, bind_tests, bind_of, use_record, use_of, target, finish_of, filled}
 use Rattle.labels.proofs.Tests.{Coded, numbers, first_coded}
-use Rattle.labels.proofs.Finishing.{none, room_below, number_of_use, number_of_finish, Finished, finished, finish_arrives}
+use Rattle.labels.proofs.Finishing.{room_below, number_of_use, number_of_finish, Finished, finished, finish_arrives}
 use Rattle.labels.proofs.Coded.{may_room, may_coded, finish_coded}
 use Rattle.labels.proofs.Edges.{bind_15, use_15, finish_15}
 use Rattle.host.specs.Number.{Reads, refusal_in, value_in}

@@ -4,19 +4,18 @@
 
 ghost use Rattle.std.specs.Prelude.{◌≡◌};
 ghost use Rattle.words.specs.Place.{place_at};
-ghost use Rattle.labels.specs.Sheet.{use_record, binding_said, count_said};
+ghost use Rattle.labels.specs.Sheet.{use_record};
 ghost use Rattle.host_labels.specs.Number.{host_bound, host_count, host_bind, host_use, host_finish};
+ghost use Rattle.words.specs.Answer.{said};
 
-use labels::{Binding, Counted, Use};
+use labels::Use;
+use words::Refusal;
 
 // The number of a binding's answer.
-fn bound(b: Binding) -> u64
-    ensures { result ≡ host_bound (binding_said b) }
+fn bound(b: Result<(), Refusal>) -> u64
+    ensures { result ≡ host_bound (said b) }
 {
-    match b {
-        Binding::Bound => 0,
-        Binding::NotBound(r) => host::refused(r),
-    }
+    b.map_or_else(host::refused, |()| 0)
 }
 
 // A label is bound to a place: 15, 12, 13, 8.
@@ -33,13 +32,10 @@ pub fn vaimalofo_bind_label(
 }
 
 // The number of a count that is at most a sheet's length, or of a refusal.
-fn told(c: Counted) -> u64
-    ensures { result ≡ host_count (count_said c) }
+fn told(c: Result<usize, Refusal>) -> u64
+    ensures { result ≡ host_count (said c) }
 {
-    match c {
-        Counted::Count(n) => (n % 72057594037927936 * 256) as u64,
-        Counted::Kept(r) => host::refused(r),
-    }
+    c.map_or_else(host::refused, |n| (n % 72057594037927936 * 256) as u64)
 }
 
 // A use of a label by the word at a place, at a format, is added to the `count` that wait in the sheet: 15, 7, 12, 8, 11, 6, 16, 14. The value is the

@@ -13,6 +13,8 @@ use lib.Dec.{ltb}
 use lib.IntN.{pos}
 use lib.ListN.{length, take, drop, get_or}
 use Rattle.arm.specs.MoveWide.{Regs, write, run}
+use Rattle.std.specs.Prelude.{Result, Ok}
+use Rattle.words.specs.declared.Refusal.{Refusal}
 use Rattle.items.specs.Items.{item_of}
 use Rattle.items.specs.declared.Item.{Item}
 use Rattle.reader.specs.declared.Found.{Found}
@@ -44,7 +46,7 @@ module _ (k : Lfts 2) (words words' : Bor (List ℕ)) (numbers numbers' : MutBor
   ns' = numbers'.now
 
   -- what stands at the position, and the numbers that a host finds after the call
-  abbrev found : Found
+  abbrev found : Result Found Refusal
   found = found_of ws position
 
   abbrev number : ℕ → ℕ
@@ -88,8 +90,8 @@ module _ (k : Lfts 2) (words words' : Bor (List ℕ)) (numbers numbers' : MutBor
         let next : number 0 ≡ o.next = read_number 0 q.some ∙ q.next in
         ((subst (Reads answer) q.is read_told).0, rw next o.later, rw next o.within)
 
-    numbers_of : {f : Found} → found ≡ f → (i : ℕ) → i < length (number_list f) → number i ≡ get_or (number_list f) i 0
-    numbers_of e i l = subst (λ (g : Found). i < length (number_list g) → number i ≡ get_or (number_list g) i 0) e (read_number i) l
+    numbers_of : {f : Result Found Refusal} → found ≡ f → (i : ℕ) → i < length (number_list f) → number i ≡ get_or (number_list f) i 0
+    numbers_of e i l = subst (λ (g : Result Found Refusal). i < length (number_list g) → number i ≡ get_or (number_list g) i 0) e (read_number i) l
 
     -- a constant: its words, run from any old content of the registers, leave its value in its register and the others alone
     pub read_constant : value_in answer ≡ pos 1 → (number 0 ≡ position + number 4) × ((R : Regs) → run (take (number 4) (drop position ws)) R ≡ some (write R (number 1) (number 3)))
@@ -109,7 +111,7 @@ module _ (k : Lfts 2) (words words' : Bor (List ℕ)) (numbers numbers' : MutBor
     read_word kind k v =
         let j = single_kind answer kind v found read_told k in
         let h = single_is ws position j.2 in
-        numbers_of (j.2 ∙ ap (λ (i : Item). Single i j.1) h.0 ∙ ap (Single (item_of (get_or ws position 0))) h.1)
+        numbers_of (j.2 ∙ ap (λ (i : Item). Ok (Single i j.1)) h.0 ∙ ap (λ (n : Span). Ok (Single (item_of (get_or ws position 0)) n)) h.1)
 
   answered : 11 ≤ length ns → position ≤ length ws → refusal_in answer ≡ 0
   answered enough h = go (ltb position (length ws)) refl

@@ -1,14 +1,15 @@
 -- What the entry that reads words back answers and writes. Assumes nothing.
-use Rattle.std.specs.Prelude.{cond, List, [], ◌∷◌, ℕ, ◌+◌, ◌*◌, ltb, ℤ, pos, length}
+use Rattle.std.specs.Prelude.{cond, List, [], ◌∷◌, ℕ, ◌+◌, ◌*◌, ltb, ℤ, pos, length, Result, Ok, Err}
 use Rattle.std.proofs.lemmas.List.Edits.{sets}
 use Rattle.std.specs.Int.{w64}
 use Rattle.std.proofs.Common.{of_z}
 use Rattle.words.specs.Said.{Said, ok, no}
 use Rattle.words.specs.Answer.{number_of}
+use Rattle.words.specs.declared.Refusal.{Refusal}
 use Rattle.items.specs.declared.Item.{Item}
 use Rattle.items.specs.declared.Item.TheVariants as item
 use Rattle.reader.specs.declared.Found.{Found}
-use Rattle.reader.specs.declared.Found.TheVariants.{Joined, Single, End, No}
+use Rattle.reader.specs.declared.Found.TheVariants.{Joined, Single, End}
 use Rattle.reader.specs.declared.Span.{Span}
 use Rattle.reader.specs.Found.{found_of}
 use Rattle.host.specs.Number.{told}
@@ -21,11 +22,11 @@ item_kind (item.Logical l) = 3
 item_kind (item.Displaced d) = 4
 item_kind (item.Unknown w) = 5
 
-abbrev pub kind_of : Found → Said ℤ
-kind_of (Joined c s) = ok (pos 1)
-kind_of (Single i s) = ok (pos (item_kind i))
-kind_of End = ok (pos 0)
-kind_of (No r) = no (number_of r)
+abbrev pub kind_of : Result Found Refusal → Said ℤ
+kind_of (Ok (Joined c s)) = ok (pos 1)
+kind_of (Ok (Single i s)) = ok (pos (item_kind i))
+kind_of (Ok End) = ok (pos 0)
+kind_of (Err r) = no (number_of r)
 
 -- ---- the numbers of each kind; `next`, the position after the item, is the first
 
@@ -45,16 +46,16 @@ item_numbers (item.Displaced d) s = s.next.0 ∷ d.format ∷ d.base.0 ∷ of_z 
 item_numbers (item.Unknown w) s = s.next.0 ∷ w.0 ∷ s.at.0 ∷ []
 
 -- a constant: next, register, size, value, words; the end of the run and a refusal have none
-abbrev pub number_list : Found → List ℕ
-number_list (Joined c s) = s.next.0 ∷ c.rd ∷ size_of c.sf ∷ c.value ∷ c.count ∷ []
-number_list (Single i s) = item_numbers i s
-number_list End = []
-number_list (No r) = []
+abbrev pub number_list : Result Found Refusal → List ℕ
+number_list (Ok (Joined c s)) = s.next.0 ∷ c.rd ∷ size_of c.sf ∷ c.value ∷ c.count ∷ []
+number_list (Ok (Single i s)) = item_numbers i s
+number_list (Ok End) = []
+number_list (Err r) = []
 
 -- ---- the entry
 
 -- the kind, and the lent numbers with those of what was found from the first on
-abbrev pub host_found : List ℕ → Found → ℕ × List ℕ
+abbrev pub host_found : List ℕ → Result Found Refusal → ℕ × List ℕ
 host_found ns f = (told (kind_of f), sets ns 0 (number_list f))
 
 -- 8 where fewer than eleven numbers are lent, which is the most that an item has

@@ -1,11 +1,7 @@
 -- The words that bytes spell, by their bytes. Assumes nothing.
-use mathlib.Core.Path.{◌≡◌, refl, ap, ◌∙◌}
-use mathlib.Core.List.{List, [], ◌∷◌}
-use Prim.Native.Nat.{ℕ, zero, suc, ◌+◌, ◌*◌, ◌/◌, ◌<◌}
-use native.Mathlib.Omega.{arith}
-use lib.ListN.{length, get_or}
+use Rattle.std.proofs.Common.{◌≡◌, ℕ, zero, suc, ◌+◌, ◌*◌, ◌^◌, ◌/◌, ◌<◌, ◌≤◌, List, [], ◌∷◌, length, get_or, refl, arith}
+use Rattle.std.specs.Simd.{first_chunks}
 use Rattle.writers.specs.Put.{words_in}
-use Rattle.host_retargets.specs.Private.{four_from}
 
 -- "a tail under four is no room"
 pub words_count : (bs : List ℕ) → length (words_in bs) ≡ length bs / 4
@@ -15,19 +11,15 @@ words_count (a ∷ b ∷ []) = refl
 words_count (a ∷ b ∷ c ∷ []) = refl
 words_count (a ∷ b ∷ c ∷ d ∷ bs) = let e = words_count bs in omega arith
 
-pub word_bytes : (bs : List ℕ) (p : ℕ) → p < length bs / 4 → get_or (words_in bs) p 0 ≡ four_from bs (p * 4)
-word_bytes [] p h = absurd (omega arith)
-word_bytes (a ∷ []) p h = absurd (omega arith)
-word_bytes (a ∷ b ∷ []) p h = absurd (omega arith)
-word_bytes (a ∷ b ∷ c ∷ []) p h = absurd (omega arith)
-word_bytes (a ∷ b ∷ c ∷ d ∷ bs) zero h = refl
-word_bytes (a ∷ b ∷ c ∷ d ∷ bs) (suc p) h =
-    let e : suc (suc (suc (suc (p * 4)))) ≡ suc p * 4 = omega arith in
-    word_bytes bs p (omega arith) ∙ further ∙ ap (four_from (a ∷ b ∷ c ∷ d ∷ bs)) e
-  where
-    -- the same byte, four further on
-    byte : (i : ℕ) → get_or bs (p * 4 + i) 0 ≡ get_or (a ∷ b ∷ c ∷ d ∷ bs) (suc (suc (suc (suc (p * 4)))) + i) 0
-    byte i = let e : suc (suc (suc (suc (p * 4 + i)))) ≡ suc (suc (suc (suc (p * 4)))) + i = omega arith in ap (λ (j : ℕ). get_or (a ∷ b ∷ c ∷ d ∷ bs) j 0) e
+-- four bytes as a word, the low one first
+abbrev pub four : List ℕ → ℕ
+four w = get_or w 0 0 + get_or w 1 0 * 2 ^ 8 + get_or w 2 0 * 2 ^ 16 + get_or w 3 0 * 2 ^ 24
 
-    further : four_from bs (p * 4) ≡ four_from (a ∷ b ∷ c ∷ d ∷ bs) (suc (suc (suc (suc (p * 4)))))
-    further = rw (byte 1, byte 2, byte 3) refl
+pub word_bytes : (bs e : List ℕ) (n p : ℕ) → p < n → n ≤ length bs / 4 → four (get_or (first_chunks 4 n bs) p e) ≡ get_or (words_in bs) p 0
+word_bytes bs e zero p h r = absurd (omega arith)
+word_bytes [] e (suc n) p h r = absurd (omega arith)
+word_bytes (a ∷ []) e (suc n) p h r = absurd (omega arith)
+word_bytes (a ∷ b ∷ []) e (suc n) p h r = absurd (omega arith)
+word_bytes (a ∷ b ∷ c ∷ []) e (suc n) p h r = absurd (omega arith)
+word_bytes (a ∷ b ∷ c ∷ d ∷ bs) e (suc n) zero h r = refl
+word_bytes (a ∷ b ∷ c ∷ d ∷ bs) e (suc n) (suc p) h r = word_bytes bs e n p (omega arith) (omega arith)

@@ -1,46 +1,22 @@
 // The entries for the tool's host that give a word already written another distance, in the manner of the crate `host`.
 #![tactic(auto)]
 
-ghost use Rattle.std.specs.Prelude.{◌≡◌, ◌+◌, ◌*◌, ◌<◌, length};
+ghost use Rattle.std.specs.Prelude.{◌≡◌};
 ghost use Rattle.words.specs.Place.{place_at, address_of};
 ghost use Rattle.writers.specs.Put.{words_in};
 ghost use Rattle.disp_targets.specs.Target.{low_of};
 ghost use Rattle.retargets.specs.Retarget.{word_at, standing_said, again_said, again_to};
 ghost use Rattle.host.specs.Number.{host_put, host_put_to};
-ghost use Rattle.host_retargets.specs.Private.{four_from};
 
-use retargets::Standing;
 use words::{Address, ByteDistance, Opc, Refusal};
 
-fn wide(x: u8) -> u32
-    ensures { (result ≡ x) × (result < 256) }
-{
-    x as u32
-}
-
-// Four bytes as a word, the low one first.
-fn four(a: u8, b: u8, c: u8, d: u8) -> u32
-    ensures { result ≡ a + b * 256 + c * 65536 + d * 16777216 }
-{
-    wide(a) + wide(b) * 256 + wide(c) * 65536 + wide(d) * 16777216
-}
-
-// Those from j on.
-fn joined(bytes: &[u8], j: usize) -> u32
-    requires { j + 3 < length bytes.now }
-    ensures { result ≡ four_from bytes.now j }
-{
-    four(bytes[j], bytes[j + 1], bytes[j + 2], bytes[j + 3])
-}
-
 // The word that stands at a position of a run of bytes, or 8.
-fn found(bytes: &[u8], position: usize) -> Standing
+fn found(bytes: &[u8], position: usize) -> Result<Opc, Refusal>
     ensures { standing_said result ≡ word_at (words_in bytes.now) position }
 {
-    if position < bytes.len() / 4 {
-        return Standing::Stands(Opc(joined(bytes, position * 4)));
-    }
-    Standing::Missing(Refusal::NoRoom)
+    let (words, _) = bytes.as_chunks::<4>();
+    let word = words.get(position).ok_or(Refusal::NoRoom)?;
+    Ok(Opc(u32::from_le_bytes(*word)))
 }
 
 // The word at a place with another distance: 15, 7, 8, 11, 4, 5.

@@ -5,14 +5,14 @@
 ghost use Rattle.std.specs.Prelude.{◌≡◌};
 ghost use Rattle.host_rewrites.specs.Number.{host_rewrite};
 
-use words::{Opc, Worded};
+use words::Opc;
 
 // A word written again from its own fields.
 pub fn vaimalofo_rewrite(word: u32) -> u64
     ensures { result ≡ host_rewrite word }
 {
-    match item_words::write_item(items::read_word(Opc(word))) {
-        Worded::Made(f) => f.a as u64 * 256,
-        Worded::Not(r) => host::refused(r),
-    }
+    item_words::write_item(items::read_word(Opc(word))).map_or_else(
+        host::refused,
+        |f| u64::from(f.a) * 256,
+    )
 }

@@ -6,28 +6,25 @@ ghost use Rattle.std.specs.Prelude.{◌≡◌, pos};
 ghost use Rattle.words.specs.Said.{Said};
 ghost use Rattle.halfwords.specs.Halfwords.{count};
 ghost use Rattle.registers.specs.Checks.{gp_ok, vec_ok, cond_field};
-ghost use Rattle.immediates.specs.Says.{said, FloatSays, MaskSays};
+ghost use Rattle.immediates.specs.Says.{FloatSays, MaskSays};
 ghost use Rattle.host.specs.Number.{told, yes_no};
 ghost use Rattle.host_values.specs.Values.{natural, TestSays, Tells};
+ghost use Rattle.words.specs.Answer.{said};
 
-use immediates::Imm8Answer;
 use words::Refusal;
 
 // A number above the low byte.
 fn value_of(n: u32) -> u64
     ensures { result ≡ told (Said.ok (pos n)) }
 {
-    n as u64 * 256
+    u64::from(n) * 256
 }
 
 // An 8-bit value, or its refusal.
-fn imm8_of(a: Imm8Answer) -> u64
+fn imm8_of(a: Result<u8, Refusal>) -> u64
     ensures { result ≡ told (natural (said a)) }
 {
-    match a {
-        Imm8Answer::Imm8(b) => value_of(b as u32),
-        Imm8Answer::NoImm8(r) => host::refused(r),
-    }
+    a.map_or_else(host::refused, |b| value_of(u32::from(b)))
 }
 
 // How many of the four halfwords of a value are zero, 0 to 4: never refused.
@@ -45,6 +42,7 @@ pub fn vaimalofo_float_imm8(value: u64, width: u32) -> u64
 }
 
 // Whether the low bits of a value have an 8-bit float, at width 16, 32 or 64, 1 or 0: 1.
+// Stays: a width by its number, since three different functions answer.
 pub fn vaimalofo_is_float_imm8(value: u64, width: u32) -> u64
     ensures { Tells (TestSays width value) yes_no result }
 {

@@ -1,5 +1,5 @@
 -- Each public entry's contract allows one answer. Assumes nothing.
-use mathlib.Core.Path.{◌≡◌, refl, ap}
+use mathlib.Core.Path.{◌≡◌, refl}
 use mathlib.Core.Bool.{Bool, true, false}
 use mathlib.Core.Logic.{inl, inr, ⊎_elim}
 use Prim.Native.Nat.{ℕ, ◌%◌, ◌^◌}
@@ -7,26 +7,17 @@ use Rattle.arm.specs.Immediates.{VFPExpandImm, ByteMask}
 use Rattle.arm.specs.Imm8.{read_float, read_mask}
 use Rattle.arm.proofs.Expand.{back16, back32, back64, mask_back}
 use Rattle.words.specs.Said.{Said}
-use Rattle.words.proofs.Answers.{all_said, answered, refusal_back}
+use Rattle.words.proofs.Answers.{said_all}
 use Rattle.words.proofs.Contracts.{OneAnswer, one_answer}
-use Rattle.immediates.specs.declared.Imm8Answer.{Imm8Answer}
-use Rattle.immediates.specs.declared.Imm8Answer.TheVariants.{Imm8, NoImm8}
-use Rattle.immediates.specs.Says.{said, FloatSays, MaskSays, Tests}
+use Rattle.immediates.specs.Says.{FloatSays, MaskSays, Tests}
 use Rattle.immediates.proofs.Laws.{one_said}
+use Rattle.words.specs.Answer.{said}
 use Rattle.immediates.proofs.encode_fp_to_imm8.Reads as encode_fp_to_imm8
 use Rattle.immediates.proofs.encode_imm64_byte_mask_to_imm8.Reads as encode_imm64_byte_mask_to_imm8
 use Rattle.immediates.proofs.is_fp16_imm8.Reads as is_fp16_imm8
 use Rattle.immediates.proofs.is_fp32_imm8.Reads as is_fp32_imm8
 use Rattle.immediates.proofs.is_fp64_imm8.Reads as is_fp64_imm8
 use Rattle.immediates.proofs.is_byte_mask_imm.Reads as is_byte_mask_imm
-
--- what an answer says is all of it
-said_back : (r : Imm8Answer) → answered Imm8 NoImm8 (said r) ≡ r
-said_back (Imm8 b) = refl
-said_back (NoImm8 r) = ap NoImm8 (refusal_back r)
-
-pub said_all : (r s : Imm8Answer) → said r ≡ said s → r ≡ s
-said_all = all_said said (answered Imm8 NoImm8) said_back
 
 pub one_float : (N v : ℕ) (a a' : Said ℕ) → FloatSays N v a → FloatSays N v a' → a ≡ a'
 unfolding FloatSays

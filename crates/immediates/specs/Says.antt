@@ -2,14 +2,6 @@
 use Rattle.std.specs.Prelude.{◌≡◌, Bool, true, false, ◌⊎◌, ℕ, ◌%◌, ◌^◌, ◌<◌}
 use Rattle.arm.specs.Immediates.{VFPExpandImm, ByteMask}
 use Rattle.words.specs.Said.{Said, ok, no}
-use Rattle.words.specs.Answer.{number_of}
-use Rattle.immediates.specs.declared.Imm8Answer.{Imm8Answer}
-use Rattle.immediates.specs.declared.Imm8Answer.TheVariants.{Imm8, NoImm8}
-
--- the 8-bit value, or the number of a refusal
-abbrev pub said : Imm8Answer → Said ℕ
-said (Imm8 b) = ok b
-said (NoImm8 r) = no (number_of r)
 
 -- an 8-bit value that `expand` takes to x; 3 exactly where there is none
 unfoldable pub Spells : (ℕ → ℕ) → ℕ → Said ℕ → Type 0

@@ -1,4 +1,4 @@
--- What private functions give; no contract of a public one cites it. Assumes nothing.
+-- What a private function gives, and whether there is an answer; no contract of a public one cites it. Assumes nothing.
 use Rattle.std.specs.Prelude.{Bool, true, false, cond, ℕ, eqb}
 use Rattle.words.specs.Said.{Said, ok, no}
 

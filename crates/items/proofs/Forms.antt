@@ -1,24 +1,23 @@
 -- The format of a word, by its form; and what a word is that has one, or none. Assumes nothing.
-use mathlib.Core.Path.{◌≡◌, refl, sym, ap}
+use mathlib.Core.Path.{◌≡◌, refl, sym}
 use mathlib.Core.Bool.{Bool, true, false, cond, ◌&&◌}
 use Prim.Native.Nat.{ℕ, ◌<◌}
 use native.Mathlib.Omega.{arith}
 use borrow.Author.Tests.{ne_eqb}
-use lib.Dec.{eqb, ltb}
-use lib.IntN.{ℤ}
-use mir.Syntax.{w64}
-use mir.Val.{to_z}
+use lib.Dec.{eqb}
 use Rattle.arm.specs.Bits.{bits}
-use Rattle.words.specs.Said.{ok, no}
-use Rattle.words.specs.declared.ByteDistance.{ByteDistance}
-use Rattle.words.proofs.Answers.{not_both}
 use Rattle.forms.specs.Form.{is_of_form, Formed}
 use Rattle.forms.proofs.Formats.{each}
 use Rattle.forms.proofs.Instructions.{one_form}
-use Rattle.displacements.specs.Forms.{form_of, clear_in}
-use Rattle.displacements.specs.Answer.{offset, read_said}
+use Rattle.std.specs.Prelude.{None, Some, Option as RustOption, option_map}
+use Rattle.forms.specs.Format.{format_number}
+use Rattle.forms.specs.declared.Format.{Format}
+use Rattle.forms.specs.declared.Format.TheVariants.{Branch26, Branch19, Branch14, Adr, Adrp, Ldr}
+use Rattle.items.specs.declared.Displacement.{Displacement}
+use Rattle.items.specs.declared.Item.{Item}
 use Rattle.items.specs.declared.Item.TheVariants as item
-use Rattle.items.specs.Items.{opc, form_number, displaced_of}
+use Rattle.items.specs.Items.{opc, form_number, displacement_of, displaced_of}
+use Rattle.items.specs.Private.{displacement_in}
 
 module _ (w : ℕ) where
   -- ---- the first form that fits, as the code looks for it
@@ -124,25 +123,26 @@ module _ (w : ℕ) where
     form_none =
         first_6 (apart 0 (omega arith)) (apart 1 (omega arith)) (apart 2 (omega arith)) (apart 3 (omega arith)) (apart 4 (omega arith)) (apart 5 (omega arith))
 
-  -- ---- what it is, by the answer of the reader of distances
+  -- ---- what it is, by the format found
 
-  pub no_distance : {n k : ℕ} → n ≡ form_number w → no k ≡ read_said w n → item.Unknown (opc w) ≡ displaced_of w (form_number w)
-  no_distance {n} {k} e = rw (← e) (go (ltb 5 n))
+  abbrev pub displaced_or : RustOption Displacement → Item
+  displaced_or None = item.Unknown (opc w)
+  displaced_or (Some d) = item.Displaced d
+
+  pub displaced_is : displaced_or (displacement_in w) ≡ displaced_of w (form_number w)
+  unfolding form_number
+  displaced_is = go (is_of_form 0 w) (is_of_form 1 w) (is_of_form 2 w) (is_of_form 3 w) (is_of_form 4 w) (is_of_form 5 w)
     where
-      go : (b : Bool) → no k ≡ cond b (no 7) (ok (to_z w64 (offset n w)))
-          → item.Unknown (opc w) ≡ cond b (item.Unknown (opc w)) (item.Displaced (record { format = n; base = opc (clear_in (form_of n) w); distance = record { 0 = to_z w64 (offset n w) } }))
-      go true q = refl
-      go false q = absurd (not_both (sym q))
+      at : Format → Displacement
+      at f = displacement_of w (format_number f)
 
-  pub a_distance : {n b : ℕ} (d : ByteDistance) → n ≡ form_number w → b ≡ clear_in (form_of n) w → ok d.0 ≡ read_said w n
-      → item.Displaced (record { format = n; base = opc b; distance = d }) ≡ displaced_of w (form_number w)
-  a_distance {n} d e q = rw (← e, q) (go (ltb 5 n))
-    where
-      out : {x y : ℤ} → ok x ≡ ok y → x ≡ y
-      out q = cc
-
-      go : (b : Bool) → ok d.0 ≡ cond b (no 7) (ok (to_z w64 (offset n w)))
-          → item.Displaced (record { format = n; base = opc (clear_in (form_of n) w); distance = d })
-          ≡ cond b (item.Unknown (opc w)) (item.Displaced (record { format = n; base = opc (clear_in (form_of n) w); distance = record { 0 = to_z w64 (offset n w) } }))
-      go true q = absurd (not_both q)
-      go false q = ap (λ (i : ℤ). item.Displaced (record { format = n; base = opc (clear_in (form_of n) w); distance = record { 0 = i } })) (out q)
+      go : (a b c d e f : Bool)
+          → displaced_or (option_map at (cond a (Some Branch26) (cond b (Some Branch19) (cond c (Some Branch14) (cond d (Some Adr) (cond e (Some Adrp) (cond f (Some Ldr) None)))))))
+          ≡ displaced_of w (cond a 0 (cond b 1 (cond c 2 (cond d 3 (cond e 4 (cond f 5 6))))))
+      go true b c d e f = refl
+      go false true c d e f = refl
+      go false false true d e f = refl
+      go false false false true e f = refl
+      go false false false false true f = refl
+      go false false false false false true = refl
+      go false false false false false false = refl

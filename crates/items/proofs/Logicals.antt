@@ -13,11 +13,16 @@ use Rattle.arm.specs.LogicalImmediate.{Logical, logical_op, defined, decode_logi
 use Rattle.arm.specs.MoveWide.{datasize}
 use Rattle.arm.proofs.Fields.{not_short}
 use Rattle.arm.proofs.Logical.{defined_exactly}
+use Rattle.std.specs.Prelude.{None, Some, Result, Ok, Err}
+use Rattle.std.specs.Result.{result_ok}
+use Rattle.words.specs.Answer.{number_of, said}
+use Rattle.words.specs.declared.Refusal.{Refusal}
 use Rattle.words.specs.Said.{ok, no}
 use Rattle.logical.proofs.Laws.{not_refused}
 use Rattle.logical_decoder.specs.Answer.{Decoded}
 use Rattle.items.specs.declared.Item.TheVariants as item
 use Rattle.items.specs.declared.LogicalWord.{LogicalWord}
+use Rattle.items.specs.Private.{logical_word_in, logical_in}
 use Rattle.items.specs.Items.{form_number, displaced_of, operation_of, logical_or, other_of}
 
 pub is_width : (sf : ℕ) → sf < 2 → IsWidth (datasize sf)
@@ -71,23 +76,33 @@ module _ (w : ℕ) where
   unfolding other_of
   none_is e = ap (λ (a : Option Logical). logical_or a (displaced_of w (form_number w))) e
 
-  pub other_group : (bits 28 23 w ≡ 0b100100 → ⊥) → other_of w ≡ displaced_of w (form_number w)
+  other_bits : (bits 28 23 w ≡ 0b100100 → ⊥) → decode_logical w ≡ none
   unfolding decode_logical
-  other_group h = none_is (simp (ne_eqb (bits 28 23 w) 0b100100 h))
+  other_bits h = simp (ne_eqb (bits 28 23 w) 0b100100 h)
 
-  pub no_mask : bits 28 23 w ≡ 0b100100 → (Legal (datasize (bits 31 31 w)) (bits 22 22 w) (bits 15 10 w) (bits 21 16 w) → ⊥) → other_of w ≡ displaced_of w (form_number w)
+  undefined : bits 28 23 w ≡ 0b100100 → (Legal (datasize (bits 31 31 w)) (bits 22 22 w) (bits 15 10 w) (bits 21 16 w) → ⊥) → decode_logical w ≡ none
   unfolding decode_logical
-  no_mask g h = none_is (rw (eq-eqb (bits 28 23 w) 0b100100 g) (go allowed refl _))
+  undefined g h = rw (eq-eqb (bits 28 23 w) 0b100100 g) (go allowed refl _)
     where
       go : (b : Bool) → allowed ≡ b → (x : Option Logical) → cond b x none ≡ none
       go true e x = absurd (h (legal_is.0 e))
       go false e x = refl
+
+  pub other_group : (bits 28 23 w ≡ 0b100100 → ⊥) → other_of w ≡ displaced_of w (form_number w)
+  other_group h = none_is (other_bits h)
+
+  pub no_mask : bits 28 23 w ≡ 0b100100 → (Legal (datasize (bits 31 31 w)) (bits 22 22 w) (bits 15 10 w) (bits 21 16 w) → ⊥) → other_of w ≡ displaced_of w (form_number w)
+  no_mask g h = none_is (undefined g h)
 
   -- ---- where it is one
 
   pub is_logical : IsLogical w → other_of w ≡ item.Logical (logical_at w)
   unfolding other_of decode_logical
   is_logical l = rw (eq-eqb (bits 28 23 w) 0b100100 l.group, legal_is.1 l.legal, operation_is (bits 30 29 w) (omega arith))
+
+  logical_some : IsLogical w → Some (logical_at w) ≡ logical_in w
+  unfolding decode_logical
+  logical_some l = sym (rw (eq-eqb (bits 28 23 w) 0b100100 l.group, legal_is.1 l.legal, operation_is (bits 30 29 w) (omega arith)))
 
   pub logical_cases : (other_of w ≡ displaced_of w (form_number w)) ⊎ IsLogical w
   logical_cases = go (eqb (bits 28 23 w) 0b100100) refl allowed refl
@@ -100,7 +115,10 @@ module _ (w : ℕ) where
       go true p true q = inr (record { group = eqb-true _ _ p; legal = legal_is.0 q })
       go true p false q = inl (no_mask (eqb-true _ _ p) (λ l. never (sym (legal_is.1 l) ∙ q)))
 
-  -- ---- by the answer of the decoder of masks
+  -- ---- what is read of it, by the answer of the decoder of masks
+
+  pub group_none : (bits 28 23 w ≡ 0b100100 → ⊥) → None ≡ logical_in w
+  group_none h = sym (ap logical_word_in (other_bits h))
 
   size_is : 32 + bits 31 31 w * 32 ≡ datasize (bits 31 31 w)
   size_is = at (bits 31 31 w) (omega arith)
@@ -110,9 +128,9 @@ module _ (w : ℕ) where
       at (suc zero) l = refl
       at (suc (suc s)) l = absurd (omega arith)
 
-  pub mask_none : bits 28 23 w ≡ 0b100100 → (k : ℕ) → Decoded (32 + bits 31 31 w * 32) (bits 22 22 w) (bits 15 10 w) (bits 21 16 w) (no k)
-      → displaced_of w (form_number w) ≡ other_of w
-  mask_none g k h = sym (no_mask g (λ legal. not_refused (is_width (bits 31 31 w) (omega arith)) (λ none. none legal) (rw size_is at h)))
+  pub mask_none : bits 28 23 w ≡ 0b100100 → (k : ℕ) → Decoded (32 + bits 31 31 w * 32) (bits 22 22 w) (bits 15 10 w) (bits 21 16 w) (no k) → None ≡ logical_in w
+  mask_none g k h =
+      sym (ap logical_word_in (undefined g (λ legal. not_refused (is_width (bits 31 31 w) (omega arith)) (λ none. none legal) (rw size_is at h))))
 
   module _ {v : ℕ} (h : Decoded (32 + bits 31 31 w * 32) (bits 22 22 w) (bits 15 10 w) (bits 21 16 w) (ok v)) where
     pub mask_long : 2 ≤ bits 22 22 w * 64 + (63 - bits 15 10 w)
@@ -123,7 +141,7 @@ module _ (w : ℕ) where
         go false e = ltb-false _ _ e
 
     pub mask_is : bits 28 23 w ≡ 0b100100 → {e : ℕ} → e ≡ esize (bits 22 22 w) (bits 15 10 w)
-        → item.Logical (record {
+        → Some (record {
           operation = bits 30 29 w;
           width = 32 + bits 31 31 w * 32;
           rn = bits 9 5 w;
@@ -134,8 +152,20 @@ module _ (w : ℕ) where
           r = bits 21 16 w;
           length = e;
           normal = ltb (bits 21 16 w) e;
-        }) ≡ other_of w
+        }) ≡ logical_in w
     mask_is g {e} q =
         let m = rw size_is at h in
         let d : bits 4 0 w ≡ w % 32 = omega arith in
-        sym (is_logical (record { group = g; legal = m.1.legal }) ∙ rw (d, m.1.mask, q, size_is))
+        sym (sym (logical_some (record { group = g; legal = m.1.legal })) ∙ rw (d, m.1.mask, q, size_is))
+
+  -- the same of the decoder's answer as the code has it
+  abbrev Answered : Result ℕ Refusal → Type 0
+  Answered r = Decoded (32 + bits 31 31 w * 32) (bits 22 22 w) (bits 15 10 w) (bits 21 16 w) (said r)
+
+  pub mask_err : bits 28 23 w ≡ 0b100100 → (r : Result ℕ Refusal) → Answered r → None ≡ result_ok r → None ≡ logical_in w
+  mask_err g (Ok v) h e = let z : ◌≡◌ {A = ℕ} 0 1 = cc in absurd (omega arith)
+  mask_err g (Err k) h e = mask_none g (number_of k) h
+
+  pub mask_ok : (r : Result ℕ Refusal) {v : ℕ} → Some v ≡ result_ok r → Answered r → Answered (Ok v)
+  mask_ok (Ok u) {v} e h = let same : v ≡ u = cc in rw same h
+  mask_ok (Err k) e h = let z : ◌≡◌ {A = ℕ} 0 1 = cc in absurd (omega arith)

@@ -10,12 +10,12 @@ use Rattle.arm.specs.LogicalImmediate.{Logical, decode_logical}
 use Rattle.arm.specs.MoveWide.{decode}
 use Rattle.forms.specs.Form.{Formed}
 use Rattle.wide_moves.specs.Wide.{wide_of}
-use Rattle.wide_moves.specs.declared.WideAnswer.TheVariants.{NoMove}
 use Rattle.wide_moves.proofs.Wides.{Passes, wide_cases}
 use Rattle.items.specs.declared.Item.TheVariants as item
 use Rattle.items.specs.Items.{form_number, displacement_of, displaced_of, logical_word_item, logical_or, other_of, item_of}
 use Rattle.items.proofs.Forms.{form_is, form_none}
 use Rattle.items.proofs.Cases.{itemed_other, by_item}
+use Rattle.std.specs.Prelude.{None}
 
 wide_not : (w : ℕ) → Passes w → decode_logical w ≡ none
 unfolding decode_logical
@@ -25,7 +25,7 @@ pub logical_read : (w : ℕ) (m : Logical) → decode_logical w ≡ some m → i
 unfolding other_of
 logical_read w m e =
     ⊎_elim
-    (λ (n : NoMove ≡ wide_of (decode w)). sym (itemed_other w n) ∙ ap (λ (a : Option Logical). logical_or a (displaced_of w (form_number w))) e)
+    (λ (n : None ≡ wide_of (decode w)). sym (itemed_other w n) ∙ ap (λ (a : Option Logical). logical_or a (displaced_of w (form_number w))) e)
     (λ (p : Passes w). absurd (none-ne-some _ (sym (wide_not w p) ∙ e)))
     (wide_cases w)
 

@@ -6,13 +6,13 @@ use Rattle.arm.specs.Bits.{bits}
 use Rattle.arm.specs.BitMasks.{Legal}
 use Rattle.arm.specs.MoveWide.{decode, datasize}
 use Rattle.wide_moves.specs.Wide.{wide_of}
-use Rattle.wide_moves.specs.declared.WideAnswer.TheVariants.{NoMove}
 use Rattle.wide_moves.proofs.Wides as wides
 use Rattle.items.specs.declared.Item.TheVariants as item
 use Rattle.items.specs.Items.{opc, item_of}
 use Rattle.items.proofs.Forms.{form_none}
 use Rattle.items.proofs.Logicals.{other_group, no_mask}
 use Rattle.items.proofs.Cases.{itemed_other}
+use Rattle.std.specs.Prelude.{None}
 
 -- a logical immediate whose fields Arm leaves undefined; N = 1 at width 32 among them
 pub unknown_mask : (w : ℕ) → bits 28 23 w ≡ 0b100100 → (Legal (datasize (bits 31 31 w)) (bits 22 22 w) (bits 15 10 w) (bits 21 16 w) → ⊥)
@@ -22,7 +22,7 @@ unknown_mask w g h =
     sym (itemed_other w (wides.other_group w (λ k. omega arith))) ∙ no_mask w g h ∙ rw (← six)
 
 module _ (w : ℕ) (g : bits 28 23 w ≡ 0b100101) where
-  unknown_move : NoMove ≡ wide_of (decode w) → item_of w ≡ item.Unknown (opc w)
+  unknown_move : None ≡ wide_of (decode w) → item_of w ≡ item.Unknown (opc w)
   unknown_move e =
       let six = form_none w (omega arith) in
       sym (itemed_other w e) ∙ other_group w (λ k. omega arith) ∙ rw (← six)

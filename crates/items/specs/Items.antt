@@ -1,5 +1,5 @@
 -- What one word is, by Arm's decoders. The sentences in quotes are document 02's, a. Assumes nothing.
-use Rattle.std.specs.Prelude.{cond, ℕ, ltb}
+use Rattle.std.specs.Prelude.{cond, ℕ, ltb, None, Some, Option as RustOption}
 use Rattle.std.proofs.Math.Option.{Option, none, some}
 use Rattle.std.specs.Int.{w64}
 use Rattle.std.proofs.Common.{to_z}
@@ -11,12 +11,11 @@ use Rattle.forms.specs.Form.{is_of_form}
 use Rattle.displacements.specs.Forms.{form_of, clear_in}
 use Rattle.displacements.specs.Answer.{offset}
 use Rattle.wide_moves.specs.Wide.{wide_of}
-use Rattle.wide_moves.specs.declared.WideAnswer.{WideAnswer}
-use Rattle.wide_moves.specs.declared.WideAnswer.TheVariants.{Move, NoMove}
 use Rattle.items.specs.declared.Displacement.{Displacement}
 use Rattle.items.specs.declared.Item.{Item}
 use Rattle.items.specs.declared.Item.TheVariants as item
 use Rattle.items.specs.declared.LogicalWord.{LogicalWord}
+use Rattle.wide_moves.specs.declared.WideMove.{WideMove}
 
 abbrev pub opc : ℕ → Opc
 opc w = record { 0 = w }
@@ -71,9 +70,9 @@ other_of w = logical_or (decode_logical w) (displaced_of w (form_number w))
 
 -- ---- "the three wide moves"
 
-abbrev pub move_or : WideAnswer → Item → Item
-move_or (Move m) i = item.Wide m
-move_or NoMove i = i
+abbrev pub move_or : RustOption WideMove → Item → Item
+move_or (Some m) i = item.Wide m
+move_or None i = i
 
 unfoldable pub item_of : ℕ → Item
 item_of w = move_or (wide_of (decode w)) (other_of w)

@@ -1,2 +1,3 @@
 -- What one word is.
 pub mod Items
+pub mod Private

@@ -4,15 +4,27 @@
 
 ghost use Rattle.std.specs.Prelude.{◌≡◌, ◌+◌, ◌-◌, ◌*◌, ◌≤◌};
 ghost use Rattle.arm.specs.BitMasks.{esize};
-ghost use Rattle.items.specs.Items.{form_number, displaced_of, other_of, item_of};
+ghost use Rattle.items.specs.Items.{item_of};
+ghost use Rattle.items.specs.Private.{format_in, displacement_in, logical_in};
 
-use displacements::DistanceAnswer;
-use logical_decoder::MaskAnswer;
-use wide_moves::{WideAnswer, WideMove};
+use forms::Format;
+use wide_moves::WideMove;
 use words::{ByteDistance, Opc};
+
+// The formats of displacements, in the order of their numbers.
+const FORMATS: [Format; 6] = [
+    Format::Branch26,
+    Format::Branch19,
+    Format::Branch14,
+    Format::Adr,
+    Format::Adrp,
+    Format::Ldr,
+];
 
 // A logical immediate: operation 0 AND, 1 ORR, 2 EOR, 3 ANDS; the value at its width; the fields N, S and R that spell it, and the element length. It
 // is normal if R is below the element length.
+// Stays: operation, width and format are numbers, since `item_words::write_item` takes any item and refuses the numbers that are none; an enum would ask
+// more of its callers.
 #[derive(Clone, Copy)]
 pub struct LogicalWord {
     pub operation: u32,
@@ -44,44 +56,24 @@ pub enum Item {
     Unknown(Opc),
 }
 
-// The format whose form a word has; 6 where it has none's.
-fn form_in(w: Opc) -> u32
-    ensures { result ≡ form_number w.0 }
+// The format whose form a word has.
+fn form_in(w: Opc) -> Option<Format>
+    ensures { result ≡ format_in w.0 }
 {
-    if forms::of_form(0, w) {
-        return 0;
-    }
-    if forms::of_form(1, w) {
-        return 1;
-    }
-    if forms::of_form(2, w) {
-        return 2;
-    }
-    if forms::of_form(3, w) {
-        return 3;
-    }
-    if forms::of_form(4, w) {
-        return 4;
-    }
-    if forms::of_form(5, w) {
-        return 5;
-    }
-    6
+    FORMATS.iter().copied().find(|f| f.is_form_of(w))
 }
 
-// A displacement, or unknown.
-fn displaced(w: Opc) -> Item
-    ensures { result ≡ displaced_of w.0 (form_number w.0) }
+// A displacement, if a word is one.
+fn displaced(w: Opc) -> Option<Displacement>
+    ensures { result ≡ displacement_in w.0 }
 {
-    let format = form_in(w);
-    match displacements::read_disp(w, format) {
-        DistanceAnswer::Distance(distance) => Item::Displaced(Displacement {
-            format,
-            base: displacements::clear_disp(format, w),
-            distance,
-        }),
-        DistanceAnswer::NoDistance(_) => Item::Unknown(w),
-    }
+    let format = form_in(w)? as u32;
+    let distance = displacements::read_disp(w, format).ok()?;
+    Some(Displacement {
+        format,
+        base: displacements::clear_disp(format, w),
+        distance,
+    })
 }
 
 // The element length that N and S tell.
@@ -89,48 +81,49 @@ fn length_of(n: u32, s: u32) -> u32
     requires { (n ≤ 1) × (s ≤ 63) × (2 ≤ n * 64 + (63 - s)) }
     ensures { result ≡ esize n s }
 {
-    1 << (31 - u32::leading_zeros(n * 64 + (63 - s)))
+    1 << (n * 64 + (63 - s)).ilog2()
 }
 
-// A word that is no wide move to a register.
-fn other(w: Opc) -> Item
-    ensures { result ≡ other_of w.0 }
+// A logical immediate, if a word is one.
+fn logical(w: Opc) -> Option<LogicalWord>
+    ensures { result ≡ logical_in w.0 }
 {
     let x = w.0;
     if x / 8388608 % 64 != 36 {
-        return displaced(w);
+        return None;
     }
     let n = x / 4194304 % 2;
     let s = x / 1024 % 64;
     let r = x / 65536 % 64;
     let width = 32 + x / 2147483648 % 2 * 32;
-    match logical_decoder::decode_logical_imm(n, s, r, width) {
-        MaskAnswer::Mask(value) => {
-            let length = length_of(n, s);
-            Item::Logical(LogicalWord {
-                operation: x / 536870912 % 4,
-                width,
-                rn: x / 32 % 32,
-                rd: x % 32,
-                value,
-                n,
-                s,
-                r,
-                length,
-                normal: r < length,
-            })
-        }
-        // No displacement has the fixed bits of a logical immediate.
-        MaskAnswer::NoMask(_) => Item::Unknown(w),
-    }
+    let value = logical_decoder::decode_logical_imm(n, s, r, width).ok()?;
+    let length = length_of(n, s);
+    Some(LogicalWord {
+        operation: x / 536870912 % 4,
+        width,
+        rn: x / 32 % 32,
+        rd: x % 32,
+        value,
+        n,
+        s,
+        r,
+        length,
+        normal: r < length,
+    })
 }
 
 // What a word is.
 pub fn read_word(w: Opc) -> Item
     ensures { result ≡ item_of w.0 }
 {
-    match wide_moves::read_wide(w) {
-        WideAnswer::Move(m) => Item::Wide(m),
-        WideAnswer::NoMove => other(w),
+    if let Some(m) = wide_moves::read_wide(w) {
+        return Item::Wide(m);
     }
+    if let Some(l) = logical(w) {
+        return Item::Logical(l);
+    }
+    if let Some(d) = displaced(w) {
+        return Item::Displaced(d);
+    }
+    Item::Unknown(w)
 }

@@ -10,16 +10,18 @@ use borrow.Author.Tests.{eq-eqb, ne_eqb, eqb-true, eqb-false}
 use lib.Dec.{eqb}
 use lib.ListN.{length, get_or, set, take, drop, drop_of_length-le}
 use lib.Seq.{drop-cons, get_or-take, length-take-le}
+use Rattle.std.specs.Prelude.{Some, slice_get}
+use Rattle.std.proofs.lemmas.Option.{slice_get-get_or}
 use Rattle.words.specs.Said.{Said, ok}
 use Rattle.words.specs.declared.Place.{Place}
 use Rattle.labels.specs.declared.Use.{Use}
 use Rattle.labels.specs.Order.{first, or_else, answer}
-use Rattle.labels.specs.Sheet.{room_for, names, use_refusal, use_of, check_of, word_number, fixed_of, filled, finish_tests, finish_of, counted_of}
+use Rattle.labels.specs.Sheet.{none, room_for, names, use_refusal, use_of, check_of, word_number, fixed_of, filled, finish_tests, finish_of, counted_of}
 use Rattle.labels.proofs.Tests.{Coded, first_then, or_next, or_stop, counted_done, counted_kept}
-use Rattle.labels.proofs.Finishing.{none, finish_numbers, room_in}
-use Rattle.labels.proofs.Coded.{take_least, may_room, may_coded, check_coded, early_coded, early_room}
+use Rattle.labels.proofs.Finishing.{finish_numbers, room_in}
+use Rattle.labels.proofs.Coded.{may_room, check_coded, early_coded, early_room}
 use Rattle.labels.proofs.Turns.{check_at, number_on, number_bad, number_end, uses_inside, uses_write, uses_over}
-use Rattle.label_runs.specs.Flat.{uses_of, among, Runs, use_runs}
+use Rattle.label_runs.specs.Flat.{uses_of, Runs, use_runs}
 
 -- ---- how far the uses go
 
@@ -57,7 +59,16 @@ uses_at (l ∷ ms) (a ∷ ps) [] i h = absurd (not-suc-le-zero h)
 uses_at (l ∷ ms) (a ∷ ps) (f ∷ fs) zero h = refl
 uses_at (l ∷ ms) (a ∷ ps) (f ∷ fs) (suc i) h = uses_at ms ps fs i (omega arith)
 
+-- it is there
+pub use_there : (ms ps fs : List ℕ) (i : ℕ) → i < length (uses_of ms ps fs) → Some (flat_at ms ps fs i) ≡ slice_get (uses_of ms ps fs) i
+use_there ms ps fs i h = ap Some (sym (uses_at ms ps fs i h)) ∙ sym (slice_get-get_or (uses_of ms ps fs) i none h)
+
 -- ---- the scan for a word
+
+-- k is one of the numbers
+abbrev pub among : ℕ → List ℕ → Bool
+among k [] = false
+among k (a ∷ ps) = cond (eqb a k) true (among k ps)
 
 pub names_among : (k n : ℕ) (ms ps fs : List ℕ) → n ≤ length (uses_of ms ps fs) → names k (take n (uses_of ms ps fs)) ≡ among k (take n ps)
 names_among k zero ms ps fs h = refl
@@ -132,57 +143,19 @@ uses_set (l ∷ ms) (a ∷ ps) [] (suc n) u = refl
 uses_set (l ∷ ms) (a ∷ ps) (f ∷ fs) zero u = refl
 uses_set (l ∷ ms) (a ∷ ps) (f ∷ fs) (suc n) u = ap (λ (us : List Use). record { label = l; at = a; format = f } ∷ us) (uses_set ms ps fs n u)
 
--- ---- what calls make of the numbers that they are answered
-
--- a refusal is the same, whatever the count
-refused_same : (n m r : ℕ) → (r ≡ 0 → ⊥) → counted_of n r ≡ counted_of m r
-refused_same n m zero h = absurd (h refl)
-refused_same n m (suc r) h = refl
-
 abbrev with_uses : Said ℕ → List Use → Said ℕ × List Use
 with_uses x us = (x, us)
 
 abbrev with_runs : Said ℕ → Runs → Said ℕ × Runs
 with_runs x rs = (x, rs)
 
-abbrev with_words : Said ℕ → List ℕ → Said ℕ × List ℕ
-with_words x ws = (x, ws)
-
--- a use, of the first m positions `again` being answered
-module _ (ls ws ms ps fs : List ℕ) (n : ℕ) (at : Place) (u : Use) (there m r : ℕ) (again : Bool) (et : there ≡ length (uses_of ms ps fs))
-    (em : m ≡ min n there) (ea : again ≡ among u.at (take m ps)) (er : r ≡ use_refusal ls ws at u again (room_for there (n + 1))) where
-  abbrev old : Runs
-  old = (ms, (ps, fs))
-
-  abbrev new : Runs
-  new = (set ms n u.label, (set ps n u.at, set fs n u.format))
-
-  -- the number of the definition
-  use_is : r ≡ use_refusal ls ws at u (names u.at (take n (uses_of ms ps fs))) (room_for (length (uses_of ms ps fs)) (n + 1))
-  use_is =
-      let sheet = uses_of ms ps fs in
-      let e : min n (length sheet) ≡ m = ap (min n) (sym et) ∙ sym em in
-      let t : names u.at (take n sheet) ≡ again =
-      ap (names u.at) (take_least n sheet ∙ ap (λ (k : ℕ). take k sheet) e) ∙ names_among u.at m ms ps fs (omega (arith, e)) ∙ sym ea in
-      er
-      ∙ ap (λ (y : Bool). use_refusal ls ws at u y (room_for there (n + 1))) (sym t)
-      ∙ ap (λ (k : ℕ). use_refusal ls ws at u (names u.at (take n sheet)) (room_for k (n + 1))) et
-
-  -- there is room for a use that is taken
-  pub use_fits : r ≡ 0 → (n < length ms) × (n < length ps) × (n < length fs)
-  use_fits z =
-      let h = room_in there (n + 1) (may_room ls ws at u again (room_for there (n + 1)) (sym er ∙ z)) in
-      let s = uses_short ms ps fs in
-      (omega (arith, h, et, s.0), omega (arith, h, et, s.1), omega (arith, h, et, s.2))
-
-  pub use_taken : r ≡ 0 → with_runs (ok (n + 1)) (set ms n u.label, (set ps n u.at, set fs n u.format)) ≡ use_runs ls ws (ms, (ps, fs)) n at u
-  use_taken z = ap (λ (k : ℕ). answer k (n + 1) old new) (sym z ∙ use_is)
-
-  pub use_kept : (x : Said ℕ) → x ≡ counted_of n r → (r ≡ 0 → ⊥) → with_runs x (ms, (ps, fs)) ≡ use_runs ls ws (ms, (ps, fs)) n at u
-  use_kept x ex z =
-      ap (λ (y : Said ℕ). with_runs y old) (ex ∙ refused_same n (n + 1) r z)
-      ∙ counted_kept (n + 1) r old new z (subst Coded (sym er) (may_coded ls ws at u again (room_for there (n + 1))))
-      ∙ ap (λ (k : ℕ). answer k (n + 1) old new) use_is
+-- each run has room for a use that is taken
+pub use_fits : (ls ws ms ps fs : List ℕ) (n : ℕ) (at : Place) (u : Use) (again : Bool) (there : ℕ) → there ≡ length (uses_of ms ps fs)
+    → use_refusal ls ws at u again (room_for there (n + 1)) ≡ 0 → (n < length ms) × (n < length ps) × (n < length fs)
+use_fits ls ws ms ps fs n at u again there e z =
+    let h = room_in there (n + 1) (may_room ls ws at u again (room_for there (n + 1)) z) in
+    let l = uses_length ms ps fs in
+    (omega arith, omega arith, omega arith)
 
 -- what the runs then spell is the sheet with the use, or the sheet as it was
 pub runs_spell : (ls ws ms ps fs : List ℕ) (n : ℕ) (at : Place) (u : Use) (x : Said ℕ) (ms' ps' fs' : List ℕ)
@@ -197,6 +170,14 @@ runs_spell ls ws ms ps fs n at u x ms' ps' fs' e =
     go : (r : ℕ) → with_uses (made r).0 (uses_of (made r).1.0 (made r).1.1.0 (made r).1.1.1) ≡ answer r (n + 1) (uses_of ms ps fs) (set (uses_of ms ps fs) n u)
     go zero = ap (with_uses (ok (n + 1))) (sym (uses_set ms ps fs n u))
     go (suc r) = refl
+
+-- a refusal is the same, whatever the count
+refused_same : (n m r : ℕ) → (r ≡ 0 → ⊥) → counted_of n r ≡ counted_of m r
+refused_same n m zero h = absurd (h refl)
+refused_same n m (suc r) h = refl
+
+abbrev with_words : Said ℕ → List ℕ → Said ℕ × List ℕ
+with_words x ws = (x, ws)
 
 -- finishing, the first tests having answered `early`
 module _ (at : Place) (ls ws : List ℕ) (us : List Use) (n there early : ℕ) (et : there ≡ length us)

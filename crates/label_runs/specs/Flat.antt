@@ -1,5 +1,5 @@
 -- A sheet in three runs of numbers. Assumes nothing.
-use Rattle.std.specs.Prelude.{Bool, true, false, cond, List, [], ◌∷◌, ℕ, ◌+◌, eqb, length, set, take}
+use Rattle.std.specs.Prelude.{List, [], ◌∷◌, ℕ, ◌+◌, length, set, take}
 use Rattle.words.specs.Said.{Said}
 use Rattle.words.specs.declared.Place.{Place}
 use Rattle.labels.specs.declared.Use.{Use}
@@ -12,11 +12,6 @@ uses_of [] ps fs = []
 uses_of (l ∷ ls) [] fs = []
 uses_of (l ∷ ls) (a ∷ ps) [] = []
 uses_of (l ∷ ls) (a ∷ ps) (f ∷ fs) = record { label = l; at = a; format = f } ∷ uses_of ls ps fs
-
--- k is one of the numbers
-abbrev pub among : ℕ → List ℕ → Bool
-among k [] = false
-among k (a ∷ ps) = cond (eqb a k) true (among k ps)
 
 -- the three runs
 abbrev pub Runs : Type 0

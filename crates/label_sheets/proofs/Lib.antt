@@ -1,3 +1,2 @@
--- The laws of the thin functions, and that each contract has one answer.
-pub mod Thin
+-- That each contract has one answer.
 pub mod Determined

@@ -1,23 +1,26 @@
-// Request b of document 02: what is decided of one use of a label, by value: whether it is taken, whether it has a word, and the word.
+// Request b of document 02: what is decided of one use of a label, by value: whether it is taken, whether it has a word, and the word. What is done
+// with the uses of a sheet stands in `sheets`.
 #![tactic(auto)]
 
 ghost use Rattle.std.specs.Prelude.{◌≡◌, ◌+◌, ◌<◌, get_or};
 ghost use Rattle.words.specs.Place.{address_of, base_of, place_at};
 ghost use Rattle.words.specs.Listed.{packed};
 ghost use Rattle.disp_targets.specs.Target.{low_of, carrying, word_said};
-ghost use Rattle.labels.specs.Order.{first};
-ghost use Rattle.labels.specs.Sheet.{room_for, base_tests, use_refusal, target, made_from, number_in, word_number, fixed_of};
+ghost use Rattle.labels.specs.Order.{first, code_of};
+ghost use Rattle.labels.specs.Sheet.{room_for, base_tests, use_refusal, target, made_from, word_number, fixed_of};
+
+pub mod sheets;
 
 use disp_targets::TargetWord;
 use labels::Use;
-use words::{Address, ByteDistance, Opc, Place, Refusal, WordPos, Worded};
+use words::{ByteDistance, Opc, Place, Refusal, WordPos};
 
 // A label's entry, 0 where it has none.
+// Stays: an entry is a number, 0 where the label is unbound and else its position and 1, and no Option: the table is lent by C.
 fn entry_of(labels: &[usize], label: u32) -> usize
     ensures { result ≡ get_or labels.now label 0 }
 {
-    let l = label as usize;
-    if l < labels.len() { labels[l] } else { 0 }
+    labels.get(label as usize).copied().unwrap_or(0)
 }
 
 // The position of a label that is bound.
@@ -25,23 +28,21 @@ fn entry_of(labels: &[usize], label: u32) -> usize
 fn target_of(labels: &[usize], u: Use) -> usize
     ensures { result ≡ target labels.now u }
 {
-    let e = entry_of(labels, u.label);
-    if e == 0 { 0 } else { e - 1 }
+    entry_of(labels, u.label).saturating_sub(1)
 }
 
-// Why a word is no base of a format, 0 where it is one: 11, 6. At distance 0 module 7 tests nothing else.
-fn base_number(format: u32, base: Opc) -> u32
+// Whether a word is a base of a format: 11, 6. At distance 0 module 7 tests nothing else.
+fn base_test(format: u32, base: Opc) -> Result<(), Refusal>
     requires { format < 6 }
-    ensures { result ≡ first (base_tests format base.0) 0 }
+    ensures { code_of result ≡ first (base_tests format base.0) 0 }
 {
-    match displacements::disp_word(format, base, ByteDistance(0)) {
-        Worded::Made(_) => 0,
-        Worded::Not(r) => words::number(r),
-    }
+    displacements::disp_word(format, base, ByteDistance(0))?;
+    Ok(())
 }
 
-// Why a use is not taken, 0 where it is: 15, 7, 12, 8, 11, 6, 16, 14. `again` says that an earlier one of the n uses that wait names the word; the sheet
-// has room for `there`.
+// Stays, here and below: `again` and `named` are a word in a line of tests, and each is one test alone.
+// Whether a use is taken: 15, 7, 12, 8, 11, 6, 16, 14. `again` says that an earlier one of the n uses that wait names the word; the sheet has room for
+// `there`.
 #[tactic(auto, unfolding(labels::specs::Sheet::use_refusal))]
 pub fn may_use(
     labels: &[usize],
@@ -51,33 +52,27 @@ pub fn may_use(
     again: bool,
     n: usize,
     there: usize,
-) -> u32
-    ensures { result ≡ use_refusal labels.now words.now at u again (room_for there (n + 1)) }
+) -> Result<(), Refusal>
+    ensures { code_of result ≡ use_refusal labels.now words.now at u again (room_for there (n + 1)) }
 {
-    let i = u.at;
     if !labels::is_aligned(at) {
-        return words::number(Refusal::Unaligned);
+        return Err(Refusal::Unaligned);
     }
     if 6 <= u.format {
-        return words::number(Refusal::Unknown);
+        return Err(Refusal::Unknown);
     }
     if !labels::is_label(labels, u.label) {
-        return words::number(Refusal::Label);
+        return Err(Refusal::Label);
     }
-    if words.len() <= i {
-        return words::number(Refusal::NoRoom);
-    }
-    let r = base_number(u.format, Opc(words[i]));
-    if r != 0 {
-        return r;
-    }
+    let word = *words.get(u.at).ok_or(Refusal::NoRoom)?;
+    base_test(u.format, Opc(word))?;
     if again {
-        return words::number(Refusal::Again);
+        return Err(Refusal::Again);
     }
-    if labels::has_room(n, there) {
-        return 0;
+    if !labels::has_room(n, there) {
+        return Err(Refusal::Full);
     }
-    words::number(Refusal::Full)
+    Ok(())
 }
 
 // The place of a position at another place's base.
@@ -85,14 +80,14 @@ fn moved(at: Place, position: usize) -> Place
     ensures { result ≡ place_at (base_of at) position }
 {
     Place {
-        base: Address(at.base.0),
+        base: at.base,
         position: WordPos(position),
     }
 }
 
 // Module 7's word of a use over its base word.
 #[tactic(auto, unfolding(labels::specs::Sheet::made_from))]
-fn made_word(labels: &[usize], at: Place, u: Use, base: u32) -> TargetWord
+fn made_word(labels: &[usize], at: Place, u: Use, base: u32) -> Result<TargetWord, Refusal>
     ensures { word_said result ≡ carrying (low_of u.format (address_of (place_at (base_of at) (target labels.now u)))) (packed (made_from at labels.now u base)) }
 {
     let target = words::address_of(moved(at, target_of(labels, u)));
@@ -104,55 +99,40 @@ fn made_word(labels: &[usize], at: Place, u: Use, base: u32) -> TargetWord
     )
 }
 
-// The number of its refusal, 0 for none.
-fn made_number(w: TargetWord) -> u32
-    ensures { result ≡ number_in (word_said w) }
-{
-    match w {
-        TargetWord::Word(_) => 0,
-        TargetWord::PageWord(_, _) => 0,
-        TargetWord::NoWord(r) => words::number(r),
-    }
-}
-
-// Why a use has no word, 0 where it has one: 7, 12, 8, 11, 6, 16, 4, 5. `named` says that an earlier use names the word.
+// Whether a use has a word: 7, 12, 8, 11, 6, 16, 4, 5. `named` says that an earlier use names the word.
 #[tactic(auto, unfolding(labels::specs::Sheet::word_number))]
-pub fn use_number(labels: &[usize], words: &[u32], at: Place, u: Use, named: bool) -> u32
-    ensures { result ≡ word_number at labels.now words.now named u }
+pub fn use_number(
+    labels: &[usize],
+    words: &[u32],
+    at: Place,
+    u: Use,
+    named: bool,
+) -> Result<(), Refusal>
+    ensures { code_of result ≡ word_number at labels.now words.now named u }
 {
-    let k = u.at;
     if 6 <= u.format {
-        return words::number(Refusal::Unknown);
+        return Err(Refusal::Unknown);
     }
     if !labels::is_label(labels, u.label) {
-        return words::number(Refusal::Label);
+        return Err(Refusal::Label);
     }
     if entry_of(labels, u.label) == 0 {
-        return words::number(Refusal::Label);
+        return Err(Refusal::Label);
     }
-    if words.len() <= k {
-        return words::number(Refusal::NoRoom);
-    }
+    let base = *words.get(u.at).ok_or(Refusal::NoRoom)?;
     if words.len() < target_of(labels, u) {
-        return words::number(Refusal::NoRoom);
+        return Err(Refusal::NoRoom);
     }
-    let r = base_number(u.format, Opc(words[k]));
-    if r != 0 {
-        return r;
-    }
+    base_test(u.format, Opc(base))?;
     if named {
-        return words::number(Refusal::Again);
+        return Err(Refusal::Again);
     }
-    made_number(made_word(labels, at, u, words[k]))
+    made_word(labels, at, u, base).map(|_| ())
 }
 
 // The word of a use over its base word, or the base word.
 pub fn fixed_word(labels: &[usize], at: Place, u: Use, base: u32) -> u32
     ensures { result ≡ fixed_of at labels.now u base }
 {
-    match made_word(labels, at, u, base) {
-        TargetWord::Word(f) => f.a,
-        TargetWord::PageWord(f, _) => f.a,
-        TargetWord::NoWord(_) => base,
-    }
+    made_word(labels, at, u, base).map_or(base, |w| w.words.a)
 }

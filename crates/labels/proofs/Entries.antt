@@ -12,8 +12,8 @@ use Rattle.writers.specs.Says.{done}
 use Rattle.writers.proofs.Writes.{put_answers}
 use Rattle.disp_targets.specs.Target.{target_said}
 use Rattle.labels.specs.declared.Use.{Use}
-use Rattle.labels.specs.Sheet.{target, made_from, finish_of}
-use Rattle.labels.proofs.Finishing.{none, finish_aligned, finished_inside, finished_at}
+use Rattle.labels.specs.Sheet.{none, target, made_from, finish_of}
+use Rattle.labels.proofs.Finishing.{finish_aligned, finished_inside, finished_at}
 
 module _ (at : Place) (ls ws : List ℕ) (us : List Use) (n k : ℕ) (ws' : List ℕ) (h : finish_of at ls ws us n ≡ (ok k, ws')) (i : ℕ) (m : i < n) where
   abbrev u : Use

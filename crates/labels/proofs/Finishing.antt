@@ -23,13 +23,9 @@ use Rattle.labels.specs.declared.Use.{Use}
 use Rattle.labels.specs.Limits.{use_limit}
 use Rattle.labels.specs.Order.{first, or_else}
 use Rattle.labels.specs.Puts.{puts, Free, Apart}
-use Rattle.labels.specs.Sheet.{aligned, room_for, names, bind_tests, bind_of, use_refusal, use_of, target, made_from, made_of, number_in, word_tests, word_number, check_of, or_base, pair_of, filled, finish_tests, finish_of}
+use Rattle.labels.specs.Sheet.{aligned, none, room_for, names, bind_tests, bind_of, use_refusal, use_of, target, made_from, made_of, number_in, word_tests, word_number, check_of, or_base, pair_of, filled, finish_tests, finish_of}
 use Rattle.labels.proofs.Puts.{length_puts, puts_other, puts_at}
 use Rattle.labels.proofs.Tests.{both, Passed, Numbers, numbers, passed_first, first_passed, first_then, or-none, answer_refused, answer_why, answer_done}
-
--- what stands past a sheet's end
-abbrev pub none : Use
-none = record { label = 0; at = 0; format = 0 }
 
 -- ---- words that are named
 

@@ -7,10 +7,12 @@ use native.Mathlib.Omega.{arith}
 use borrow.Author.Tests.{eqb-true}
 use lib.Dec.{eqb}
 use Rattle.arm.proofs.Tests.{never}
+use Rattle.std.specs.Prelude.{Result, Ok, Err}
 use Rattle.words.specs.Said.{Said, ok, no}
+use Rattle.words.specs.declared.Refusal.{Refusal}
 use Rattle.words.specs.Answer.{number_of, refusal_of, IsNumber}
-use Rattle.words.proofs.Answers.{refusal_back, number_fits, not_both}
-use Rattle.labels.specs.Order.{first, or_else, answer}
+use Rattle.words.proofs.Answers.{refusal_back, number_all, number_fits, not_both}
+use Rattle.labels.specs.Order.{first, or_else, answer, code_of}
 use Rattle.labels.specs.Sheet.{counted_of}
 
 pub both : (a b : Bool) → cond a b false ≡ true → (a ≡ true) × (b ≡ true)
@@ -31,6 +33,17 @@ Coded (suc n) = IsNumber (suc n)
 pub coded : (n : ℕ) → IsNumber n → Coded n
 coded zero h = tt
 coded (suc n) h = h
+
+-- which refuses
+pub refuses : (r : Refusal) → number_of r ≡ 0 → ⊥
+refuses r e = let h = number_fits {n = number_of r} (r, refl) in omega arith
+
+-- a test's answer is known by its number
+pub code_all : (r s : Result Unit Refusal) → code_of r ≡ code_of s → r ≡ s
+code_all (Ok u) (Ok v) e = refl
+code_all (Ok u) (Err s) e = absurd (refuses s (sym e))
+code_all (Err r) (Ok u) e = absurd (refuses r e)
+code_all (Err r) (Err s) e = ap Err (number_all r s e)
 
 -- ---- tests in an order
 

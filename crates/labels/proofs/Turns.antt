@@ -12,9 +12,11 @@ use lib.Seq.{take-suc, drop-cons, length-take-le, get_or-take, take-take}
 use Rattle.words.specs.declared.Place.{Place}
 use Rattle.labels.specs.declared.Use.{Use}
 use Rattle.labels.specs.Order.{or_else}
-use Rattle.labels.specs.Sheet.{names, word_number, fixed_of, check_of, filled}
-use Rattle.labels.proofs.Tests.{or_next, or_stop}
-use Rattle.labels.proofs.Finishing.{none, Distinct, All, fill_one, check_sound}
+use Rattle.words.specs.Answer.{number_of}
+use Rattle.words.specs.declared.Refusal.{Refusal}
+use Rattle.labels.specs.Sheet.{none, names, word_number, fixed_of, check_of, filled}
+use Rattle.labels.proofs.Tests.{or_next, or_stop, refuses}
+use Rattle.labels.proofs.Finishing.{Distinct, All, fill_one, check_sound}
 
 -- ---- the scan for a word
 
@@ -67,6 +69,11 @@ module _ (at : Place) (ls ws : List ℕ) (us : List Use) (n : ℕ) (f : n ≤ le
 
 pub number_end : (at : Place) (ls ws : List ℕ) (us : List Use) (n : ℕ) → n ≤ length us → (i : ℕ) → n ≤ i → check_at at ls ws (take n us) i ≡ 0
 number_end at ls ws us n f i h = ap (check_of at ls ws (take i (take n us))) (drop_of_length-le (take n us) {i = i} (rw (length-take-le n us f) h))
+
+-- a use that is refused
+pub number_err : (at : Place) (ls ws : List ℕ) (us : List Use) (n : ℕ) → n ≤ length us → (i : ℕ) → i < n → (y : Bool) (u : Use)
+    → u ≡ get_or us i none → y ≡ names u.at (take i us) → (r : Refusal) → number_of r ≡ word_number at ls ws y u → check_at at ls ws (take n us) i ≡ number_of r
+number_err at ls ws us n f i h y u g s r e = sym (number_bad at ls ws us n f i h y (rw g at s) (number_of r) (rw g at e) (refuses r))
 
 -- ---- the writing
 

@@ -9,10 +9,6 @@ use Rattle.forms.specs.Form.{is_of_form}
 use Rattle.displacements.specs.Forms.{form_of, field_in}
 use Rattle.disp_targets.specs.Target.{target_said}
 use Rattle.labels.specs.declared.Use.{Use}
-use Rattle.labels.specs.declared.Binding.{Binding}
-use Rattle.labels.specs.declared.Binding.TheVariants.{Bound, NotBound}
-use Rattle.labels.specs.declared.Counted.{Counted}
-use Rattle.labels.specs.declared.Counted.TheVariants.{Count, Kept}
 use Rattle.labels.specs.Limits.{label_limit, use_limit}
 use Rattle.labels.specs.Order.{first, or_else, answer}
 use Rattle.labels.specs.Puts.{puts}
@@ -28,6 +24,10 @@ names_label ls l = cond (ltb l label_limit) (ltb l (length ls)) false
 -- so many uses are within the limit and the sheet
 unfoldable pub room_for : ℕ → ℕ → Bool
 room_for there n = cond (leb n use_limit) (leb n there) false
+
+-- what is read past a sheet's end
+abbrev pub none : Use
+none = record { label = 0; at = 0; format = 0 }
 
 -- "a word that an earlier pending use names"
 abbrev pub names : ℕ → List Use → Bool
@@ -122,14 +122,6 @@ abbrev pub finish_of : Place → List ℕ → List ℕ → List Use → ℕ → 
 finish_of at ls ws us n = answer (first (finish_tests at (length us) n) (check_of at ls ws [] (take n us))) 0 ws (filled at ls ws (take n us))
 
 -- ---- the answers say it
-
-abbrev pub binding_said : Binding → Said Unit
-binding_said Bound = ok tt
-binding_said (NotBound r) = no (number_of r)
-
-abbrev pub count_said : Counted → Said ℕ
-count_said (Count n) = ok n
-count_said (Kept r) = no (number_of r)
 
 -- the answer of a call by its number
 abbrev pub counted_of : ℕ → ℕ → Said ℕ

@@ -3,8 +3,9 @@
 #![tactic(auto)]
 
 ghost use Rattle.std.specs.Prelude.{◌≡◌, ◌+◌};
-ghost use Rattle.labels.specs.Order.{first};
-ghost use Rattle.labels.specs.Sheet.{aligned, names_label, room_for, bind_of, finish_tests, binding_said, count_said, counted_of};
+ghost use Rattle.labels.specs.Order.{first, code_of};
+ghost use Rattle.labels.specs.Sheet.{aligned, names_label, room_for, bind_of, finish_tests, counted_of};
+ghost use Rattle.words.specs.Answer.{said};
 
 use words::{Place, Refusal};
 
@@ -22,30 +23,13 @@ pub struct Use {
     pub format: u32,
 }
 
-// What binding answers.
-#[derive(Clone, Copy)]
-pub enum Binding {
-    Bound,
-    NotBound(Refusal),
-}
-
-// How many uses wait after a call, or why nothing changed.
-#[derive(Clone, Copy)]
-pub enum Counted {
-    Count(usize),
-    Kept(Refusal),
-}
-
 // Whether there is a label of this number in the table.
 #[tactic(auto, unfolding(crate::specs::Sheet::names_label))]
 pub fn is_label(labels: &[usize], label: u32) -> bool
     ensures { result ≡ names_label labels.now label }
 {
     let l = label as usize;
-    if LABELS <= l {
-        return false;
-    }
-    l < labels.len()
+    l < LABELS && l < labels.len()
 }
 
 // Whether the base of a place is a multiple of 4.
@@ -58,25 +42,25 @@ pub fn is_aligned(at: Place) -> bool
 
 // A label is bound to a place: 15, 12, 13, 8.
 #[tactic(auto, using(crate::proofs::Decides::label_in))]
-pub fn bind(labels: &mut [usize], words: &[u32], label: u32, at: Place) -> Binding
-    ensures { (binding_said result, labels.new) ≡ bind_of labels.old words.now label at }
+pub fn bind(labels: &mut [usize], words: &[u32], label: u32, at: Place) -> Result<(), Refusal>
+    ensures { (said result, labels.new) ≡ bind_of labels.old words.now label at }
 {
     let l = label as usize;
     let p = at.position.0;
     if !is_aligned(at) {
-        return Binding::NotBound(Refusal::Unaligned);
+        return Err(Refusal::Unaligned);
     }
     if !is_label(labels, label) {
-        return Binding::NotBound(Refusal::Label);
+        return Err(Refusal::Label);
     }
     if labels[l] != 0 {
-        return Binding::NotBound(Refusal::Twice);
+        return Err(Refusal::Twice);
     }
     if words.len() < p {
-        return Binding::NotBound(Refusal::NoRoom);
+        return Err(Refusal::NoRoom);
     }
     labels[l] = p + 1;
-    Binding::Bound
+    Ok(())
 }
 
 // Whether a sheet with room for `there` uses, of which n wait, takes one more.
@@ -84,35 +68,31 @@ pub fn bind(labels: &mut [usize], words: &[u32], label: u32, at: Place) -> Bindi
 pub fn has_room(n: usize, there: usize) -> bool
     ensures { result ≡ room_for there (n + 1) }
 {
-    if USES <= n {
-        return false;
-    }
-    n < there
+    n < USES && n < there
 }
 
-// Why n uses of a sheet with room for `there` are not looked at, 0 where they are: 15, 14.
+// Why n uses of a sheet with room for `there` are not looked at: 15, 14.
 #[tactic(auto, unfolding(crate::specs::Sheet::room_for))]
-pub fn may_finish(at: Place, n: usize, there: usize) -> u32
-    ensures { result ≡ first (finish_tests at there n) 0 }
+pub fn may_finish(at: Place, n: usize, there: usize) -> Result<(), Refusal>
+    ensures { code_of result ≡ first (finish_tests at there n) 0 }
 {
     if !is_aligned(at) {
-        return words::number(Refusal::Unaligned);
+        return Err(Refusal::Unaligned);
     }
-    if USES < n {
-        return words::number(Refusal::Full);
+    if USES < n || there < n {
+        return Err(Refusal::Full);
     }
-    if there < n {
-        return words::number(Refusal::Full);
-    }
-    0
+    Ok(())
 }
 
 // What a call answers: so many uses that wait, where the number refuses nothing; else the refusal that has the number.
-pub fn answered(n: usize, r: u32) -> Counted
-    ensures { count_said result ≡ counted_of n r }
+// Stays: it is public, and promises an answer for every number (counted_of).
+pub fn answered(n: usize, r: u32) -> Result<usize, Refusal>
+    ensures { said result ≡ counted_of n r }
 {
     if r == 0 {
-        return Counted::Count(n);
+        Ok(n)
+    } else {
+        Err(words::numbered(r))
     }
-    Counted::Kept(words::numbered(r))
 }

@@ -3,9 +3,6 @@
 // 1, and twice more, each time reached another way.
 #![tactic(auto)]
 
-ghost use Rattle.std.specs.Prelude.{◌<◌};
-
-use labels::{Binding, Counted};
 use std::io;
 use words::{Address, Place, Refusal, WordPos};
 
@@ -46,155 +43,130 @@ const DATA: u32 = 3;
 
 const STAY: u32 = 4;
 
-// What is called.
-const BIND: u32 = 0;
-
-const USE: u32 = 1;
-
-const FINISH: u32 = 2;
-
-// A call: what is called, the base, the label, the position and the format.
+// A call, with the base: a label is bound to a position, or used by the word at a position, at a format; or all that waits is finished. The parts have no
+// names, so that the table below has a line for each call.
 #[derive(Clone, Copy)]
-struct Call(u32, u64, u32, usize, u32);
+enum Call {
+    Bind(u64, u32, usize),
+    Use(u64, u32, usize, u32),
+    Finish(u64),
+}
 
 const CALLS: [Call; 29] = [
-    Call(USE, BASE, EXIT, 6, 1),
-    Call(USE, BASE, EVEN, 7, 2),
-    Call(USE, BASE + 2, LOOP, 10, 0), // refused 15: the base is no multiple of 4
-    Call(USE, BASE, LOOP, 10, 6), // 7: there is no such format
-    Call(USE, BASE, 5, 10, 0), // 12: the table has no such label
-    Call(USE, BASE, LOOP, 19, 0), // 8: past the last word
-    Call(USE, BASE, LOOP, 8, 0), // 11: an ADD
-    Call(USE, BASE, LOOP, 5, 0), // 6: it has its distance
-    Call(USE, BASE, LOOP, 6, 1), // 16: the word waits already
-    Call(BIND, BASE, LOOP, 6, 0),
-    Call(BIND, BASE + 2, EXIT, 11, 0), // 15
-    Call(BIND, BASE, 5, 11, 0), // 12
-    Call(BIND, BASE, LOOP, 7, 0), // 13: bound already
-    Call(BIND, BASE, EXIT, 20, 0), // 8: past the end
-    Call(BIND, BASE, EXIT, 11, 0),
-    Call(USE, BASE, LOOP, 10, 0),
-    Call(USE, BASE, DATA, 1, 5),
-    Call(USE, BASE, DATA, 2, 3),
-    Call(USE, BASE, DATA, 3, 4),
-    Call(USE, BASE, STAY, 17, 0), // 14: the sheet is full
-    Call(BIND, BASE, EVEN, 9, 0),
-    Call(FINISH, BASE + 2, 0, 0, 0), // 15
-    Call(FINISH, BASE, 0, 0, 0), // 12: the data is not bound
-    Call(BIND, BASE, DATA, 18, 0),
-    Call(FINISH, BASE, 0, 0, 0),
-    Call(USE, BASE, LOOP, 10, 0), // 6: it has its distance now
-    Call(USE, BASE, STAY, 17, 0), // there is room again
-    Call(BIND, BASE, STAY, 17, 0),
-    Call(FINISH, BASE, 0, 0, 0),
+    Call::Use(BASE, EXIT, 6, 1),
+    Call::Use(BASE, EVEN, 7, 2),
+    Call::Use(BASE + 2, LOOP, 10, 0), // refused 15: the base is no multiple of 4
+    Call::Use(BASE, LOOP, 10, 6), // 7: there is no such format
+    Call::Use(BASE, 5, 10, 0), // 12: the table has no such label
+    Call::Use(BASE, LOOP, 19, 0), // 8: past the last word
+    Call::Use(BASE, LOOP, 8, 0), // 11: an ADD
+    Call::Use(BASE, LOOP, 5, 0), // 6: it has its distance
+    Call::Use(BASE, LOOP, 6, 1), // 16: the word waits already
+    Call::Bind(BASE, LOOP, 6),
+    Call::Bind(BASE + 2, EXIT, 11), // 15
+    Call::Bind(BASE, 5, 11), // 12
+    Call::Bind(BASE, LOOP, 7), // 13: bound already
+    Call::Bind(BASE, EXIT, 20), // 8: past the end
+    Call::Bind(BASE, EXIT, 11),
+    Call::Use(BASE, LOOP, 10, 0),
+    Call::Use(BASE, DATA, 1, 5),
+    Call::Use(BASE, DATA, 2, 3),
+    Call::Use(BASE, DATA, 3, 4),
+    Call::Use(BASE, STAY, 17, 0), // 14: the sheet is full
+    Call::Bind(BASE, EVEN, 9),
+    Call::Finish(BASE + 2), // 15
+    Call::Finish(BASE), // 12: the data is not bound
+    Call::Bind(BASE, DATA, 18),
+    Call::Finish(BASE),
+    Call::Use(BASE, LOOP, 10, 0), // 6: it has its distance now
+    Call::Use(BASE, STAY, 17, 0), // there is room again
+    Call::Bind(BASE, STAY, 17),
+    Call::Finish(BASE),
 ];
 
-fn call_at(i: usize) -> Call
-    requires { i < 29 }
-{
-    CALLS[i]
+// The table, the sheet in three runs, the words, and how many uses wait.
+// Stays: three runs side by side, since this program is to show `label_runs`.
+#[derive(Drop)]
+struct Desk {
+    labels: [usize; 5],
+    marks: [u32; 6],
+    ats: [usize; 6],
+    formats: [u32; 6],
+    words: [u32; 19],
+    waiting: usize,
 }
 
-// A line: a text, which ends in a space, and a number.
-fn say(rt: &impl Print, text: &str, n: u64) -> io::Result<()> {
-    println!(rt; "{text}{n}")
+fn place(base: u64, position: usize) -> Place {
+    Place {
+        base: Address(base),
+        position: WordPos(position),
+    }
 }
 
-fn say_refused(rt: &impl Print, r: Refusal) -> io::Result<()> {
-    say(rt, "refused ", words::number(r) as u64)
-}
+impl Desk {
+    fn bind(&mut self, label: u32, at: Place) -> Result<usize, Refusal> {
+        labels::bind(&mut self.labels, &self.words, label, at)?;
+        Ok(0)
+    }
 
-// The count after a call, which is said.
-fn counted(rt: &impl Print, a: Counted, n: usize) -> io::Result<usize> {
-    match a {
-        Counted::Count(k) => {
-            say(rt, "ok ", k as u64)?;
-            Ok(k)
+    fn add(&mut self, label: u32, at: Place, format: u32) -> Result<usize, Refusal> {
+        self.waiting = label_runs::use_flat(
+            &mut self.marks,
+            &mut self.ats,
+            &mut self.formats,
+            self.waiting,
+            &self.labels,
+            &self.words,
+            label,
+            at,
+            format,
+        )?;
+        Ok(self.waiting)
+    }
+
+    fn finish(&mut self, at: Place) -> Result<usize, Refusal> {
+        self.waiting = label_runs::finish_flat(
+            &self.marks,
+            &self.ats,
+            &self.formats,
+            self.waiting,
+            &self.labels,
+            &mut self.words,
+            at,
+        )?;
+        Ok(self.waiting)
+    }
+
+    // A call is made: 0 of a bind, else the count of uses that wait after it.
+    fn answer(&mut self, call: Call) -> Result<usize, Refusal> {
+        match call {
+            Call::Bind(base, label, position) => self.bind(label, place(base, position)),
+            Call::Use(base, label, position, format) => {
+                self.add(label, place(base, position), format)
+            }
+            Call::Finish(base) => self.finish(place(base, 0)),
         }
-        Counted::Kept(r) => {
-            say_refused(rt, r)?;
-            Ok(n)
-        }
     }
-}
-
-fn bind(
-    rt: &impl Print,
-    c: Call,
-    labels: &mut [usize],
-    words: &[u32],
-    at: Place,
-) -> io::Result<()> {
-    match labels::bind(labels, words, c.2, at) {
-        Binding::Bound => say(rt, "ok ", 0),
-        Binding::NotBound(r) => say_refused(rt, r),
-    }
-}
-
-// A call is made, with n uses waiting; the count after it.
-fn answer(
-    rt: &impl Print,
-    c: Call,
-    n: usize,
-    labels: &mut [usize],
-    marks: &mut [u32],
-    ats: &mut [usize],
-    formats: &mut [u32],
-    words: &mut [u32],
-) -> io::Result<usize> {
-    let at = Place {
-        base: Address(c.1),
-        position: WordPos(c.3),
-    };
-    let kind = c.0;
-    if kind == BIND {
-        bind(rt, c, labels, words, at)?;
-        return Ok(n);
-    }
-    if kind == USE {
-        let a = label_runs::use_flat(marks, ats, formats, n, labels, words, c.2, at, c.4);
-        return counted(rt, a, n);
-    }
-    counted(
-        rt,
-        label_runs::finish_flat(marks, ats, formats, n, labels, words, at),
-        n,
-    )
-}
-
-// A word in hex, as a line.
-fn say_word(rt: &impl Print, w: u32) -> io::Result<()> {
-    println!(rt; "{w:08x}")
-}
-
-fn say_words(rt: &impl Print, words: &[u32]) -> io::Result<()> {
-    for w in words {
-        say_word(rt, *w)?;
-    }
-    Ok(())
 }
 
 // A write that fails is the end.
 fn main(rt: HostRuntime) -> io::Result<()> {
-    let mut labels = [0usize; 5];
-    let mut marks = [0u32; 6];
-    let mut ats = [0usize; 6];
-    let mut formats = [0u32; 6];
-    let mut words = WORDS;
-    let mut n = 0;
-    let mut i = 0;
-    while i < 29 {
-        n = answer(
-            &rt,
-            call_at(i),
-            n,
-            &mut labels,
-            &mut marks,
-            &mut ats,
-            &mut formats,
-            &mut words,
-        )?;
-        i += 1;
+    let mut desk = Desk {
+        labels: [0; 5],
+        marks: [0; 6],
+        ats: [0; 6],
+        formats: [0; 6],
+        words: WORDS,
+        waiting: 0,
+    };
+    for call in CALLS {
+        match desk.answer(call) {
+            Ok(n) => println!(rt; "ok {n}")?,
+            Err(r) => println!(rt; "{r}")?,
+        }
     }
-    say_words(&rt, &words)
+    for w in desk.words {
+        println!(rt; "{w:08x}")?;
+    }
+    Ok(())
 }

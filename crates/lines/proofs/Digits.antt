@@ -1,21 +1,13 @@
--- Digits: the code's hex digit, and a number by its tenth. Assumes nothing.
-use mathlib.Core.Path.{◌≡◌, refl, ap}
+-- A number's digits, and a number by its tenth. Assumes nothing.
+use mathlib.Core.Path.{◌≡◌, ap}
 use mathlib.Core.Bool.{Bool, true, false, cond}
 use mathlib.Core.List.{List, [], ◌∷◌, ◌++◌}
-use Prim.Native.Nat.{ℕ, zero, suc, ◌+◌, ◌*◌, ◌/◌, ◌%◌, ◌^◌, ◌≤◌, ◌<◌}
+use Prim.Native.Nat.{ℕ, zero, suc, ◌+◌, ◌/◌, ◌%◌, ◌^◌, ◌≤◌, ◌<◌}
 use native.Mathlib.Omega.{arith}
-use borrow.Author.Tests.{lt-ltb, le-ltb, ltb-true, ltb-false}
+use borrow.Author.Tests.{lt-ltb, le-ltb}
 use lib.Dec.{ltb}
 use lib.ListN.{length, length-append}
-use Rattle.lines.specs.Text.{digit, decimal_in, decimal}
-
--- a hex digit with no test
-pub digit_is : (d : ℕ) → d < 16 → 48 + d + d / 10 * 39 ≡ digit d
-digit_is d h = go (ltb d 10) refl
-  where
-    go : (b : Bool) → ltb d 10 ≡ b → 48 + d + d / 10 * 39 ≡ digit d
-    go true t = let l = ltb-true d 10 t in simp (lt-ltb d 10 l) (omega arith)
-    go false t = let l = ltb-false d 10 t in simp (le-ltb d 10 l) (omega arith)
+use Rattle.lines.specs.Text.{decimal_in, decimal}
 
 -- one digit's room less is enough for a number that has them all
 fewer : (k n : ℕ) → n < 10 ^ suc k → decimal_in (suc k) n ≡ decimal_in (suc (suc k)) n

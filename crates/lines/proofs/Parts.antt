@@ -2,7 +2,7 @@
 use mathlib.Core.Path.{◌≡◌, refl, sym, ap, ◌∙◌}
 use mathlib.Core.Bool.{Bool, true, false, cond}
 use mathlib.Core.List.{List, [], ◌∷◌, ◌++◌}
-use Prim.Native.Nat.{ℕ, ◌+◌, ◌-◌, ◌≤◌, ◌<◌}
+use Prim.Native.Nat.{ℕ, ◌+◌, ◌≤◌, ◌<◌}
 use native.Mathlib.Nat.{add-zero}
 use native.Mathlib.Omega.{arith}
 use borrow.Author.Tests.{le-leb, lt-leb, leb-true, leb-false}
@@ -13,17 +13,6 @@ use Rattle.words.proofs.Runs.{sets_append}
 use Rattle.lines.specs.Parts.{Part, text, number, word, bytes_of, most_of, part_at, parts_at, bytes_of_all, most_of_all}
 use Rattle.lines.specs.Steps.{Put}
 use Rattle.lines.proofs.Digits.{short_all}
-
--- room by a difference, as the code has it
-pub room_is : (room at most : ℕ) → at ≤ room → leb most (room - at) ≡ leb (at + most) room
-room_is room at most h = go (leb most (room - at)) refl
-  where
-    go : (b : Bool) → leb most (room - at) ≡ b → b ≡ leb (at + most) room
-    go true e = let l = leb-true most (room - at) e in sym (le-leb (at + most) room (omega arith))
-    go false e = let l = leb-false most (room - at) e in sym (lt-leb (at + most) room (omega arith))
-
-pub no_room : (room at most : ℕ) → room < at → false ≡ leb (at + most) room
-no_room room at most h = sym (lt-leb (at + most) room (omega arith))
 
 -- a test of room, by its outcome
 module _ {b : Bool} {m n : ℕ} (e : b ≡ leb m n) where

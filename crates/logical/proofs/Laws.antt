@@ -15,6 +15,9 @@ use Rattle.arm.proofs.Laws.{shape, same_fields}
 use Rattle.words.specs.Said.{Said, ok, no}
 use Rattle.logical.specs.declared.LogicalImm.{LogicalImm}
 use Rattle.logical.specs.Answer.{Refused, Decodes, Encoded}
+use Rattle.logical.specs.Width.{bits_of}
+use Rattle.logical.specs.declared.Width.{Width}
+use Rattle.logical.specs.declared.Width.TheVariants.{W32, W64}
 use Rattle.logical.specs.Run.{spelling, Evened}
 
 -- ---- one answer
@@ -63,6 +66,12 @@ one_from {w} v {f = f} p q = p.2 ∙ ap f (encoded_one w v p.0 q.0 p.1 q.1) ∙ 
 -- the length is 64 at most
 pub length_low : {w n s r e : ℕ} → IsWidth w → Legal w n s r → e ≡ esize n s → e ≤ 64
 length_low ww h q = rw q (omega (arith, (legal_element ww h).fits, width_le ww))
+
+-- ---- widths
+
+pub width_is : (w : Width) → IsWidth (bits_of w)
+width_is W32 = inl refl
+width_is W64 = inr refl
 
 -- ---- from a run to the encoder's answer
 

@@ -6,3 +6,4 @@ pub mod Examples
 pub mod Model
 pub mod Laws
 pub mod Search
+mod Rotated

@@ -3,9 +3,10 @@
 
 ghost use Rattle.std.specs.Prelude.{◌≡◌, ◌%◌, ◌^◌, ◌≤◌, ◌<◌};
 ghost use Rattle.std.specs.Int.Count.{count_trailing_zeros};
-ghost use Rattle.arm.specs.Bits.{ROR};
-ghost use Rattle.logical.specs.Answer.{fields_said, Encoded};
+ghost use Rattle.logical.specs.Answer.{Encoded};
 ghost use Rattle.logical.specs.Run.{Found, spelling, Evened};
+ghost use Rattle.logical.specs.Width.{bits_of, Widths};
+ghost use Rattle.words.specs.Answer.{said};
 
 use words::Refusal;
 
@@ -18,17 +19,41 @@ pub struct LogicalImm {
     pub length: u32,
 }
 
-#[derive(Clone, Copy)]
-pub enum LogicalAnswer {
-    Fields(LogicalImm),
-    NoFields(Refusal),
+// The two widths of a register, in bits.
+#[derive(Clone, Copy, Debug, PartialEq, Eq)]
+pub enum Width {
+    W32 = 32,
+    W64 = 64,
+}
+
+impl Width {
+    pub fn bits(self) -> u32
+        ensures { result ≡ bits_of self }
+    {
+        self as u32
+    }
+}
+
+impl TryFrom<u32> for Width {
+    type Error = Refusal;
+
+    ghost try_from_gives = { Widths };
+
+    fn try_from(bits: u32) -> Result<Self, Refusal> {
+        match bits {
+            32 => Ok(Width::W32),
+            64 => Ok(Width::W64),
+            _ => Err(Refusal::Width),
+        }
+    }
 }
 
 // An even value as copies of an element of e bits, in which l ones stand p places up.
 #[derive(Clone, Copy)]
-enum RunAnswer {
-    Run { e: u32, p: u32, l: u32 },
-    NoRun,
+struct Run {
+    e: u32,
+    p: u32,
+    l: u32,
 }
 
 // The zeros below the lowest set bit.
@@ -36,37 +61,28 @@ fn zeros(x: u64) -> u32
     requires { 0 < x }
     ensures { (result ≡ count_trailing_zeros 64 x) × (result < 64) × (2 ^ result ≤ x) }
 {
-    u64::trailing_zeros(x)
-}
-
-// x turned to the right by e.
-fn turned(x: u64, e: u32) -> u64
-    requires { (0 < e) × (e ≤ 64) }
-    ensures { result ≡ ROR 64 x e }
-{
-    let r = e % 64;
-    (x >> r) | (x << ((64 - r) % 64))
+    x.trailing_zeros()
 }
 
 // The run of an even x. Its place and its length are read off the lowest element, and with the zeros above the top run they make the element
 // length; turned by that, the value must be as it was. So there is no search over lengths. The turn is tested first: it fails for nearly
 // every value that is no mask.
-fn find_run(x: u64) -> RunAnswer
+fn find_run(x: u64) -> Option<Run>
     requires { x % 2 ≡ 0 }
     ensures { Found 64 x result }
 {
     if x == 0 {
-        return RunAnswer::NoRun;
+        return None;
     }
     let p = zeros(x);
     let l = zeros((x >> p) + 1);
-    let e = p + l + u64::leading_zeros(x);
-    if turned(x, e) != x {
-        return RunAnswer::NoRun;
+    let e = p + l + x.leading_zeros();
+    if x.rotate_right(e) != x {
+        return None;
     }
     match e {
-        2 | 4 | 8 | 16 | 32 | 64 => RunAnswer::Run { e, p, l },
-        _ => RunAnswer::NoRun,
+        2 | 4 | 8 | 16 | 32 | 64 => Some(Run { e, p, l }),
+        _ => None,
     }
 }
 
@@ -91,45 +107,36 @@ fn spell(e: u32, l: u32, r: u32) -> LogicalImm
     }
 }
 
-fn encode_64(v: u64) -> LogicalAnswer
-    ensures { Encoded 64 v (fields_said result) }
+fn encode_64(v: u64) -> Result<LogicalImm, Refusal>
+    ensures { Encoded 64 v (said result) }
 {
-    match find_run(evened(v)) {
-        RunAnswer::Run { e, p, l } => {
-            if v % 2 == 0 {
-                LogicalAnswer::Fields(spell(e, l, e - p))
-            } else {
-                LogicalAnswer::Fields(spell(e, e - l, e - p - l))
-            }
-        }
-        RunAnswer::NoRun => LogicalAnswer::NoFields(Refusal::NoField),
+    let Run { e, p, l } = find_run(evened(v)).ok_or(Refusal::NoField)?;
+    if v % 2 == 0 {
+        Ok(spell(e, l, e - p))
+    } else {
+        Ok(spell(e, e - l, e - p - l))
     }
 }
 
 // At width 32 the value stands twice in 64 bits, and an element of 64 bits does not serve.
-fn encode_32(v: u64) -> LogicalAnswer
+fn encode_32(v: u64) -> Result<LogicalImm, Refusal>
     requires { v < 2 ^ 32 }
-    ensures { Encoded 32 v (fields_said result) }
+    ensures { Encoded 32 v (said result) }
 {
-    match encode_64(v * 4294967297) {
-        LogicalAnswer::Fields(f) => {
-            if f.n == 0 {
-                LogicalAnswer::Fields(f)
-            } else {
-                LogicalAnswer::NoFields(Refusal::NoField)
-            }
-        }
-        LogicalAnswer::NoFields(r) => LogicalAnswer::NoFields(r),
+    let f = encode_64(v * 4294967297)?;
+    if f.n == 0 {
+        Ok(f)
+    } else {
+        Err(Refusal::NoField)
     }
 }
 
 // The fields that spell the low bits of a value.
-pub fn encode_logical_imm(imm: u64, width: u32) -> LogicalAnswer
-    ensures { Encoded width imm (fields_said result) }
+pub fn encode_logical_imm(imm: u64, width: u32) -> Result<LogicalImm, Refusal>
+    ensures { Encoded width imm (said result) }
 {
-    match width {
-        32 => encode_32(imm % 4294967296),
-        64 => encode_64(imm),
-        _ => LogicalAnswer::NoFields(Refusal::Width),
+    match Width::try_from(width)? {
+        Width::W32 => encode_32(imm % 4294967296),
+        Width::W64 => encode_64(imm),
     }
 }

@@ -2,16 +2,8 @@
 use Rattle.std.specs.Prelude.{◌≡◌, ℕ, ◌%◌}
 use Rattle.arm.specs.BitMasks.{IsWidth, Legal, esize}
 use Rattle.words.specs.Said.{Said, ok, no}
-use Rattle.words.specs.Answer.{number_of}
 use Rattle.logical.specs.Answer.{fields, Refused, Decodes}
 use Rattle.logical.specs.declared.LogicalImm.{LogicalImm}
-use Rattle.logical_decoder.specs.declared.MaskAnswer.{MaskAnswer}
-use Rattle.logical_decoder.specs.declared.MaskAnswer.TheVariants.{Mask, NoMask}
-
--- the mask of an answer, or document 01's number
-abbrev pub mask_said : MaskAnswer → Said ℕ
-mask_said (Mask m) = ok m
-mask_said (NoMask r) = no (number_of r)
 
 -- the decoder: the mask that the fields decode to; 3 "where Arm leaves it undefined", and for fields of more than one, six and six bits
 abbrev pub Decoded : ℕ → ℕ → ℕ → ℕ → Said ℕ → Type 0

@@ -3,35 +3,13 @@
 
 ghost use Rattle.std.specs.Prelude.{◌≡◌, ℕ, ◌+◌, ◌/◌, ◌%◌, ◌^◌, ◌≤◌, ◌<◌};
 ghost use Rattle.arm.specs.Bits.{Ones, ROR, Replicate};
-ghost use Rattle.arm.specs.BitMasks.{IsWidth, highest_set_bit};
 ghost use Rattle.arm.specs.Elements.{Element, runs};
-ghost use Rattle.logical.specs.Answer.{fields_said};
-ghost use Rattle.logical_decoder.specs.Answer.{mask_said, Decoded, Normal};
+ghost use Rattle.logical.specs.Width.{bits_of};
+ghost use Rattle.logical_decoder.specs.Answer.{Decoded, Normal};
+ghost use Rattle.words.specs.Answer.{said};
 
-use logical::LogicalAnswer;
+use logical::{LogicalImm, Width};
 use words::Refusal;
-
-#[derive(Clone, Copy)]
-pub enum MaskAnswer {
-    Mask(u64),
-    NoMask(Refusal),
-}
-
-// The highest power of two in x.
-fn top_bit(x: u32) -> u32
-    requires { (2 ≤ x) × (x < 128) }
-    ensures { result ≡ 2 ^ highest_set_bit 6 x }
-{
-    1 << (31 - u32::leading_zeros(x))
-}
-
-// x modulo a power of two.
-fn below(x: u32, e: u32) -> u32
-    requires { (k : ℕ) × (e ≡ 2 ^ k) }
-    ensures { result ≡ x % e }
-{
-    x & (e - 1)
-}
 
 // 1 in the lowest bit of each element of e bits, over 64 bits.
 fn copies(e: u32) -> u64
@@ -49,69 +27,56 @@ fn copies(e: u32) -> u64
 }
 
 // A run of l ones, p places up, in each element of e bits.
-fn repeated(l: u32, p: u32, e: u32, w: u32) -> u64
-    requires { IsWidth w × (w ≤ 64) × (0 < w) × Element w e × (0 < l) × (0 < p) × (p + l ≤ e) }
-    ensures { (result ≡ runs e (w / e) p l) × (result ≤ Ones w) }
+fn repeated(l: u32, p: u32, e: u32, w: Width) -> u64
+    requires { Element (bits_of w) e × (0 < l) × (0 < p) × (p + l ≤ e) }
+    ensures { (result ≡ runs e (bits_of w / e) p l) × (result ≤ Ones (bits_of w)) }
 {
-    (words::lsb_mask(l) << p) * (copies(e) >> (64 - w))
+    (words::lsb_mask(l) << p) * (copies(e) >> (64 - w.bits()))
 }
 
 // A run of l ones in each element of e bits, turned to the right by q.
-fn mask_of(e: u32, l: u32, q: u32, w: u32) -> u64
-    requires { IsWidth w × (w ≤ 64) × (0 < w) × Element w e × (0 < l) × (l < e) × (q < e) }
-    ensures { result ≡ Replicate e (ROR e (Ones l) q) (w / e) }
+fn mask_of(e: u32, l: u32, q: u32, w: Width) -> u64
+    requires { Element (bits_of w) e × (0 < l) × (l < e) × (q < e) }
+    ensures { result ≡ Replicate e (ROR e (Ones l) q) (bits_of w / e) }
 {
     if l <= q {
         repeated(l, e - q, e, w)
     } else {
-        words::lsb_mask(w) - repeated(e - l, l - q, e, w)
+        words::lsb_mask(w.bits()) - repeated(e - l, l - q, e, w)
     }
 }
 
-fn decode_at(n: u32, s: u32, r: u32, w: u32) -> MaskAnswer
-    requires { IsWidth w × (w ≤ 64) × (0 < w) }
-    ensures { Decoded w n s r (mask_said result) }
+// The element's length is a power of two, so `levels`, one less, masks what counts of S and R.
+fn decode_at(n: u32, s: u32, r: u32, w: Width) -> Result<u64, Refusal>
+    ensures { Decoded (bits_of w) n s r (said result) }
 {
-    if 1 < n {
-        return MaskAnswer::NoMask(Refusal::NoField);
-    }
-    if 63 < s {
-        return MaskAnswer::NoMask(Refusal::NoField);
-    }
-    if 63 < r {
-        return MaskAnswer::NoMask(Refusal::NoField);
+    if 1 < n || 63 < s || 63 < r {
+        return Err(Refusal::NoField);
     }
     let x = n * 64 + (63 - s);
     if x < 2 {
-        return MaskAnswer::NoMask(Refusal::NoField);
+        return Err(Refusal::NoField);
     }
-    let e = top_bit(x);
-    if w < e {
-        return MaskAnswer::NoMask(Refusal::NoField);
+    let e: u32 = 1 << x.ilog2();
+    let levels = e - 1;
+    let l = (s & levels) + 1;
+    if w.bits() < e || l == e {
+        return Err(Refusal::NoField);
     }
-    let l = below(s, e) + 1;
-    if l == e {
-        return MaskAnswer::NoMask(Refusal::NoField);
-    }
-    MaskAnswer::Mask(mask_of(e, l, below(r, e), w))
+    Ok(mask_of(e, l, r & levels, w))
 }
 
 // The value that fields spell.
-pub fn decode_logical_imm(n: u32, s: u32, r: u32, width: u32) -> MaskAnswer
-    ensures { Decoded width n s r (mask_said result) }
+pub fn decode_logical_imm(n: u32, s: u32, r: u32, width: u32) -> Result<u64, Refusal>
+    ensures { Decoded width n s r (said result) }
 {
-    match width {
-        32 | 64 => decode_at(n, s, r, width),
-        _ => MaskAnswer::NoMask(Refusal::Width),
-    }
+    decode_at(n, s, r, Width::try_from(width)?)
 }
 
 // The same value in normal form, with the element length: decoded, then encoded.
-pub fn normalise(n: u32, s: u32, r: u32, width: u32) -> LogicalAnswer
-    ensures { Normal width n s r (fields_said result) }
+pub fn normalise(n: u32, s: u32, r: u32, width: u32) -> Result<LogicalImm, Refusal>
+    ensures { Normal width n s r (said result) }
 {
-    match decode_logical_imm(n, s, r, width) {
-        MaskAnswer::Mask(m) => logical::encode_logical_imm(m, width),
-        MaskAnswer::NoMask(r) => LogicalAnswer::NoFields(r),
-    }
+    let m = decode_logical_imm(n, s, r, width)?;
+    logical::encode_logical_imm(m, width)
 }

@@ -17,7 +17,24 @@ use Rattle.words.specs.declared.Words.{Words}
 use Rattle.words.proofs.Answers.{Alone, alone_short, listed_packed, not_both}
 use Rattle.words.proofs.Table.{at}
 use Rattle.logical.specs.declared.LogicalImm.{LogicalImm}
+use Rattle.logical.specs.Width.{bits_of}
+use Rattle.logical.specs.declared.Width.{Width}
+use Rattle.logical.proofs.Laws.{width_is}
+use Rattle.logical_words.specs.Operation.{operation_number}
+use Rattle.logical_words.specs.declared.Operation.{Operation}
+use Rattle.logical_words.specs.declared.Operation.TheVariants.{And, Orr, Eor, Ands}
 use Rattle.logical_words.specs.Word.{bases, base_of, placed_of, filled, word_of}
+
+-- ---- what was converted
+
+pub known : {n : ℕ} (o : Operation) → operation_number o ≡ n → n ≤ 3
+known And q = omega (arith, q)
+known Orr q = omega (arith, q)
+known Eor q = omega (arith, q)
+known Ands q = omega (arith, q)
+
+pub at_width : {n : ℕ} (w : Width) → bits_of w ≡ n → IsWidth n
+at_width w q = rw q at (width_is w)
 
 -- ---- the base: operations rise by 20000000 (hex)
 
@@ -41,14 +58,14 @@ module _ (operation w rn rd : ℕ) (a : Said LogicalImm) where
   unfolding word_of
   word_width h none = simp (le-ltb 3 operation h, ne_eqb w 32 (λ e. none (inl e)), ne_eqb w 64 (λ e. none (inr e)))
 
-  width_is : IsWidth w → eqb w 32 || eqb w 64 ≡ true
-  width_is ww = at_widths (λ (k : ℕ). (eqb k 32 || eqb k 64) ≡ true) refl refl w ww
+  width_known : IsWidth w → eqb w 32 || eqb w 64 ≡ true
+  width_known ww = at_widths (λ (k : ℕ). (eqb k 32 || eqb k 64) ≡ true) refl refl w ww
 
   pub word_register : operation ≤ 3 → IsWidth w → (31 < rn) ⊎ (31 < rd) → word_of operation w rn rd a ≡ no 2
   unfolding word_of
   word_register h ww high =
       let past : ltb 31 rn || ltb 31 rd ≡ true = ⊎_elim (λ (k : 31 < rn). simp (lt-ltb 31 rn k)) (λ (k : 31 < rd). either (ltb 31 rn) (lt-ltb 31 rd k)) high in
-      simp (le-ltb 3 operation h, width_is ww, past)
+      simp (le-ltb 3 operation h, width_known ww, past)
     where
       either : (b : Bool) {c : Bool} → c ≡ true → b || c ≡ true
       either true q = refl
@@ -56,7 +73,7 @@ module _ (operation w rn rd : ℕ) (a : Said LogicalImm) where
 
   pub word_filled : operation ≤ 3 → IsWidth w → rn ≤ 31 → rd ≤ 31 → word_of operation w rn rd a ≡ filled (base_of operation w) rn rd a
   unfolding word_of
-  word_filled h ww n d = simp (le-ltb 3 operation h, width_is ww, le-ltb 31 rn n, le-ltb 31 rd d)
+  word_filled h ww n d = simp (le-ltb 3 operation h, width_known ww, le-ltb 31 rn n, le-ltb 31 rd d)
 
 -- a word is made only of numbers that are allowed and fields that the encoder gives
 pub record Made (operation w rn rd x : ℕ) (a : Said LogicalImm) : Type 0 where

@@ -2,21 +2,55 @@
 #![tactic(auto)]
 
 ghost use Rattle.std.specs.Prelude.{◌≡◌, ◌%◌, ◌^◌, ◌≤◌};
-ghost use Rattle.arm.specs.BitMasks.{IsWidth};
-ghost use Rattle.words.specs.Answer.{said, made};
+ghost use Rattle.logical.specs.Width.{bits_of};
+ghost use Rattle.words.specs.Answer.{said};
 ghost use Rattle.words.specs.Listed.{packed};
 ghost use Rattle.writers.specs.Put.{put_of};
+ghost use Rattle.logical_words.specs.Operation.{operation_number, Operations};
 ghost use Rattle.logical_words.specs.Word.{base_of, placed_of, ForWord};
 
-use logical::{LogicalAnswer, LogicalImm};
-use words::{Opc, Place, Refusal, Worded, Written};
+use logical::{LogicalImm, Width};
+use words::{Opc, Place, Refusal, Words};
 
-// AND, ORR, EOR, ANDS, at width 32 or 64.
-fn base(operation: u32, width: u32) -> Opc
-    requires { (operation ≤ 3) × IsWidth width × (width ≤ 64) }
-    ensures { (result.0 ≡ base_of operation width) × (result.0 % 2 ^ 23 ≡ 0) }
+// The operations, by their numbers.
+#[derive(Clone, Copy, Debug, PartialEq, Eq)]
+pub enum Operation {
+    And = 0,
+    Orr = 1,
+    Eor = 2,
+    Ands = 3,
+}
+
+impl TryFrom<u32> for Operation {
+    type Error = Refusal;
+
+    ghost try_from_gives = { Operations };
+
+    fn try_from(number: u32) -> Result<Self, Refusal> {
+        match number {
+            0 => Ok(Operation::And),
+            1 => Ok(Operation::Orr),
+            2 => Ok(Operation::Eor),
+            3 => Ok(Operation::Ands),
+            _ => Err(Refusal::Unknown),
+        }
+    }
+}
+
+// The word of an operation with all of its fields clear.
+fn base(operation: Operation, width: Width) -> Opc
+    ensures { (result.0 ≡ base_of (operation_number operation) (bits_of width)) × (result.0 % 2 ^ 23 ≡ 0) }
 {
-    Opc(0x1200_0000 + operation * 0x2000_0000 + width / 64 * 0x8000_0000)
+    let narrow = match operation {
+        Operation::And => 0x1200_0000,
+        Operation::Orr => 0x3200_0000,
+        Operation::Eor => 0x5200_0000,
+        Operation::Ands => 0x7200_0000,
+    };
+    match width {
+        Width::W32 => Opc(narrow),
+        Width::W64 => Opc(narrow + 0x8000_0000),
+    }
 }
 
 // The fields and the registers in a base word.
@@ -28,29 +62,23 @@ fn placed(base: Opc, f: LogicalImm, rn: u32, rd: u32) -> Opc
 }
 
 // The logical word of a value, for a writer.
-pub fn logical_word(operation: u32, imm: u64, width: u32, rn: u32, rd: u32) -> Worded
-    ensures { ForWord operation imm width rn rd (λ x. made result ≡ packed x) }
+pub fn logical_word(
+    operation: u32,
+    imm: u64,
+    width: u32,
+    rn: u32,
+    rd: u32,
+) -> Result<Words, Refusal>
+    ensures { ForWord operation imm width rn rd (λ x. said result ≡ packed x) }
 {
-    if 3 < operation {
-        return Worded::Not(Refusal::Unknown);
+    let operation = Operation::try_from(operation)?;
+    let w = Width::try_from(width)?;
+    if 31 < rn || 31 < rd {
+        return Err(Refusal::Register);
     }
-    match width {
-        32 | 64 => {}
-        _ => return Worded::Not(Refusal::Width),
-    }
-    if 31 < rn {
-        return Worded::Not(Refusal::Register);
-    }
-    if 31 < rd {
-        return Worded::Not(Refusal::Register);
-    }
-    match logical::encode_logical_imm(imm, width) {
-        LogicalAnswer::Fields(f) => {
-            let word = placed(base(operation, width), f, rn, rd);
-            Worded::Made(words::one(word.0))
-        }
-        LogicalAnswer::NoFields(r) => Worded::Not(r),
-    }
+    let f = logical::encode_logical_imm(imm, width)?;
+    let word = placed(base(operation, w), f, rn, rd);
+    Ok(words::one(word.0))
 }
 
 // The logical word of a value, written at a place: 15, 7, 1, 2, 3, 8.
@@ -62,7 +90,7 @@ pub fn emit_logical_imm(
     width: u32,
     rn: u32,
     rd: u32,
-) -> Written
+) -> Result<Place, Refusal>
     ensures { ForWord operation imm width rn rd (λ x. (said result, words.new) ≡ put_of words.old at x) }
 {
     writers::put(words, at, logical_word(operation, imm, width, rn, rd))

@@ -1,14 +1,16 @@
 -- The list of words as the code builds it, from the lowest halfword up. Assumes nothing.
 use mathlib.Core.Path.{◌≡◌, refl, sym, ap, ◌∙◌}
-use mathlib.Core.Bool.{Bool, true, false, cond}
+use mathlib.Core.Bool.{Bool, true, false, cond, not}
 use mathlib.Core.List.{List, [], ◌∷◌, ◌++◌, append-nil, append_assoc}
-use Prim.Native.Nat.{ℕ, zero, suc, ◌+◌, ◌-◌, ◌/◌, ◌%◌, ◌^◌, ◌<◌}
+use Prim.Native.Nat.{ℕ, zero, suc, ◌+◌, ◌-◌, ◌/◌, ◌%◌, ◌^◌, ◌<◌, ◌≤◌}
 use native.Mathlib.Nat.{add-zero, mod-eq_of_lt}
+use native.Mathlib.Numerals.{add-one}
 use native.Mathlib.Omega.{arith}
 use lib.Bits.{bit_and, bit_xor, and_mask, xor_zero_r, xor_add_and}
 use lib.Dec.{eqb, eqb-suc-zero}
 use lib.ListN.{length, set, get_or, replicate, length-append}
 use lib.Seq.{set_at, append_snoc}
+use mir.Val.{bool_byte}
 use Rattle.words.specs.Listed.{words_of}
 use Rattle.words.specs.declared.Words.{Words}
 use Rattle.halfwords.specs.Halfwords.{half}
@@ -31,6 +33,11 @@ others_parts f v = sym (on 0 (half v 0) _ (on 1 (half v 1) _ (on 2 (half v 2) _ 
         go : (b : Bool) → cond b ps ((k, h) ∷ ps) ≡ cond b [] ((k, h) ∷ []) ++ qs
         go true = e
         go false = ap (λ (l : List (ℕ × ℕ)). (k, h) ∷ l) e
+
+-- those among the lowest n
+abbrev pub among : ℕ → ℕ → ℕ → List (ℕ × ℕ)
+among f v zero = []
+among f v (suc n) = among f v n ++ part f n (half v n)
 
 -- each has a number below 4 and 16 bits
 abbrev pub Halves : List (ℕ × ℕ) → Type 0
@@ -84,6 +91,17 @@ more rd f k j ps {l} {n} {m} {w} {h} t s e p q = rw (rest_append rd ps (part f k
           end = length-append ws (word movk k j rd ∷ []) ∙ ap (λ (x : ℕ). x + 1) t.end;
           is = stored ∙ rw (room, w-is) (sym (append_snoc ws (word movk k j rd) (0 ∷ replicate (4 - (n + 1)) 0)));
         }
+
+-- the same of the halfword that comes after the lowest k
+pub one_more : (rd f v k : ℕ) {l : List ℕ} {n r w h : ℕ} → Holds (rest (among f v k) rd) n l → n < 4
+    → h ≡ half v k → r ≡ bool_byte (not (eqb h f)) → w ≡ word movk k h rd → (r ≤ 1) × Holds (rest (among f v (k + 1)) rd) (n + r) (set l n w)
+one_more rd f v k {l} {n} {r} {w} {h} t s e p q =
+    let m = counted (eqb h f) p in
+    (m.1, rw add-one (more rd f k (half v k) (among f v k) t s (ap (λ (x : ℕ). n + x) m.0) e q))
+  where
+    counted : (b : Bool) → r ≡ bool_byte (not b) → (r ≡ cond b 0 1) × (r ≤ 1)
+    counted true p = (p, omega arith)
+    counted false p = (p, omega arith)
 
 zeros : (m k : ℕ) → get_or (replicate m 0) k 0 ≡ zero
 zeros zero k = refl

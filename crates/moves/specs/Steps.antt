@@ -1,14 +1,10 @@
 -- What the inner functions give: cited by their contracts alone. Assumes nothing.
-use Rattle.std.specs.Prelude.{◌≡◌, cond, [], ◌∷◌, ℕ, suc, ◌+◌, ◌*◌, ◌/◌, ◌%◌, ◌^◌, ◌≤◌, ◌<◌, eqb, leb}
+use Rattle.std.specs.Prelude.{◌≡◌, cond, [], ◌∷◌, ℕ, ◌+◌, ◌*◌, ◌/◌, ◌%◌, ◌^◌, ◌≤◌, ◌<◌, eqb, leb}
 use Rattle.std.specs.Int.Bits.{bit_xor}
 use Rattle.words.specs.Listed.{words_of}
 use Rattle.words.specs.declared.Words.{Words}
 use Rattle.halfwords.specs.Halfwords.{count}
 use Rattle.moves.specs.Moves.{movz, movn}
-
-pub record Passed (n f h r : ℕ) : Type 0 where
-  pub is : r ≡ n + cond (eqb h f) 0 1
-  pub small : r ≤ suc n
 
 -- what the first word fills the register with, and its base
 unfoldable pub filler : ℕ → ℕ

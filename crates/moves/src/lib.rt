@@ -2,57 +2,44 @@
 #![tactic(auto)]
 
 ghost use Rattle.std.specs.Prelude.{◌≡◌, ◌/◌, ◌%◌, ◌^◌, ◌<◌};
-ghost use Rattle.words.specs.Answer.{said, made};
+ghost use Rattle.words.specs.Answer.{said};
 ghost use Rattle.words.specs.Listed.{words_of, packed};
 ghost use Rattle.writers.specs.Put.{put_of};
 ghost use Rattle.moves.specs.Moves.{word, others, rest, long, short, mov_said};
-ghost use Rattle.moves.specs.Steps.{Passed, Filled, Based, first_word, lead};
+ghost use Rattle.moves.specs.Steps.{Filled, Based, first_word, lead};
 
-use words::{Opc, Place, Refusal, Worded, Words, Written};
+pub mod register;
 
-const MOVZ: Opc = Opc(0xD2800000);
+use register::Register;
+use words::{Opc, Place, Refusal, Words};
+
+pub const MOVZ: Opc = Opc(0xD2800000);
 
 const MOVN: Opc = Opc(0x92800000);
 
-const MOVK: Opc = Opc(0xF2800000);
+pub const MOVK: Opc = Opc(0xF2800000);
 
 const MOVN32: Opc = Opc(0x12800000);
 
-// 31 is the zero register.
-const LAST_REGISTER: u32 = 30;
-
 // A base with halfword number, halfword and register.
-fn word(base: Opc, k: u32, h: u32, rd: u32) -> Opc
-    requires { (base.0 < 0xF3000000) × (k < 4) × (h < 2 ^ 16) × (rd < 31) }
-    ensures { result.0 ≡ word base.0 k h rd }
+fn word(base: Opc, k: u32, h: u32, rd: Register) -> Opc
+    requires { (base.0 < 0xF3000000) × (k < 4) × (h < 2 ^ 16) }
+    ensures { result.0 ≡ word base.0 k h rd.number }
 {
-    Opc(base.0 + k * 2097152 + h * 32 + rd)
-}
-
-// The place after a halfword: one further, unless the halfword is f.
-fn past(n: usize, f: u32, h: u32) -> usize
-    requires { n < 4 }
-    ensures { Passed n f h result }
-{
-    if h == f { n } else { n + 1 }
+    Opc(base.0 + k * 2097152 + h * 32 + rd.number)
 }
 
 // MOVK for each halfword that is not f, lowest first, with no branch on the halfwords: each word is stored, and the next one over it where
 // its halfword is f.
-fn rest(f: u32, imm: u64, rd: u32) -> Words
-    requires { rd < 31 }
-    ensures { result ≡ words_of (rest (others f imm) rd) }
+fn rest(f: u32, imm: u64, rd: Register) -> Words
+    ensures { result ≡ words_of (rest (others f imm) rd.number) }
 {
-    let h = halfwords::cut(imm);
-    let mut w = [0u32; 5];
-    w[0] = word(MOVK, 0, h.0, rd).0;
-    let i = past(0, f, h.0);
-    w[i] = word(MOVK, 1, h.1, rd).0;
-    let j = past(i, f, h.1);
-    w[j] = word(MOVK, 2, h.2, rd).0;
-    let k = past(j, f, h.2);
-    w[k] = word(MOVK, 3, h.3, rd).0;
-    let count = past(k, f, h.3);
+    let mut w = [0; 5];
+    let mut count = 0;
+    for (k, h) in halfwords::cut(imm).iter().enumerate() {
+        w[count] = word(MOVK, k as u32, *h, rd).0;
+        count += usize::from(*h != f);
+    }
     w[count] = 0;
     Words {
         count,
@@ -71,13 +58,7 @@ fn lead(z: Opc, w: Opc, q: Words) -> Words
     if q.count == 0 {
         return words::one(z.0);
     }
-    Words {
-        count: q.count,
-        a: w.0,
-        b: q.b,
-        c: q.c,
-        d: q.d,
-    }
+    Words { a: w.0, ..q }
 }
 
 // What the first word fills the register with: zero or FFFF.
@@ -105,20 +86,18 @@ fn first(f: u32, w: Opc) -> Opc
 }
 
 // The words of a value above FFFFFFFF. All ones leaves no halfword for the rest and is one MOVN.
-fn long(imm: u64, rd: u32) -> Words
-    requires { rd < 31 }
-    ensures { result ≡ words_of (long imm rd) }
+fn long(imm: u64, rd: Register) -> Words
+    ensures { result ≡ words_of (long imm rd.number) }
 {
     let f = filler(imm);
     let q = rest(f, imm, rd);
-    lead(Opc(base(f).0 + rd), first(f, Opc(q.a)), q)
+    lead(Opc(base(f).0 + rd.number), first(f, Opc(q.a)), q)
 }
 
 // The words of a value up to FFFFFFFF.
 #[tactic(auto, unfolding(crate::specs::Moves::short))]
-fn encode_mov_sequence32(imm: u32, rd: u32) -> Words
-    requires { rd < 31 }
-    ensures { result ≡ words_of (short (imm / 2 ^ 16) (imm % 2 ^ 16) rd) }
+fn encode_mov_sequence32(imm: u32, rd: Register) -> Words
+    ensures { result ≡ words_of (short (imm / 2 ^ 16) (imm % 2 ^ 16) rd.number) }
 {
     let hi = imm / 65536;
     let lo = imm % 65536;
@@ -139,20 +118,23 @@ fn encode_mov_sequence32(imm: u32, rd: u32) -> Words
 
 // The words of a move of a value to a register, 1 to 4, or refusal 2.
 #[tactic(auto, unfolding(crate::specs::Moves::mov_said, crate::specs::Moves::words_of_move))]
-pub fn mov_words(imm: u64, rd: u32) -> Worded
-    ensures { made result ≡ packed (mov_said imm rd) }
+pub fn mov_words(imm: u64, rd: u32) -> Result<Words, Refusal>
+    ensures { said result ≡ packed (mov_said imm rd) }
 {
-    if rd > LAST_REGISTER {
-        return Worded::Not(Refusal::Register);
-    }
+    let rd = Register::try_from(rd)?;
     if imm <= 0xFFFFFFFF {
-        return Worded::Made(encode_mov_sequence32(imm as u32, rd));
+        return Ok(encode_mov_sequence32(imm as u32, rd));
     }
-    Worded::Made(long(imm, rd))
+    Ok(long(imm, rd))
 }
 
 // A move, written: the words from the place on, or refusal 15, 2 or 8 with the run unchanged.
-pub fn encode_mov_sequence64(words: &mut [u32], at: Place, imm: u64, rd: u32) -> Written
+pub fn encode_mov_sequence64(
+    words: &mut [u32],
+    at: Place,
+    imm: u64,
+    rd: u32,
+) -> Result<Place, Refusal>
     ensures { (said result, words.new) ≡ put_of words.old at (mov_said imm rd) }
 {
     writers::put(words, at, mov_words(imm, rd))

@@ -1,13 +1,12 @@
 -- The logical words and the displacements of this port are read as what was asked. Assumes nothing.
-use mathlib.Core.Path.{◌≡◌, refl, sym, ap, subst, ◌∙◌}
+use mathlib.Core.Path.{◌≡◌, refl, ap, ◌∙◌}
 use mathlib.Core.Bool.{true}
-use mathlib.Core.List.{List, [], ◌∷◌}
-use Prim.Native.Nat.{ℕ, ◌+◌, ◌/◌, ◌%◌, ◌^◌, ◌≤◌, ◌<◌}
+use mathlib.Core.List.{[], ◌∷◌}
+use Prim.Native.Nat.{ℕ, ◌/◌, ◌%◌, ◌^◌, ◌≤◌}
 use native.Mathlib.Nat.{mod-lt}
 use native.Mathlib.Omega.{arith}
 use borrow.Author.Tests.{lt-ltb, le-ltb}
 use lib.IntN.{ℤ}
-use lib.ListN.{length, get_or}
 use lib.Pow.{pow_pos}
 use mir.Syntax.{w64}
 use mir.Val.{to_z}
@@ -16,18 +15,17 @@ use Rattle.arm.specs.LogicalImmediate.{decode_logical}
 use Rattle.arm.specs.MoveWide.{datasize}
 use Rattle.arm.proofs.Lengths.{at_widths}
 use Rattle.arm.proofs.Logical.{decoded}
-use Rattle.words.specs.Said.{Said, ok}
+use Rattle.words.specs.Said.{ok}
 use Rattle.logical.specs.Answer.{Encoded}
 use Rattle.logical.specs.declared.LogicalImm.{LogicalImm}
 use Rattle.logical_words.specs.Word.{word_of}
 use Rattle.logical_words.proofs.Word.{word_made, word_spelled}
-use Rattle.displacements.specs.Forms.{form_of, put_in, clear_in}
+use Rattle.displacements.specs.Forms.{form_of, clear_in}
 use Rattle.displacements.specs.Answer.{steps_of, offset, disp_said}
 use Rattle.displacements.specs.Says.{Says, word}
 use Rattle.displacements.proofs.Laws.{sound}
 use Rattle.displacements.proofs.Cleared.{clear_put}
 use Rattle.displacements.proofs.Demands as displacements
-use Rattle.items.specs.declared.Displacement.{Displacement}
 use Rattle.items.specs.declared.Item.{Item}
 use Rattle.items.specs.declared.Item.TheVariants as item
 use Rattle.items.specs.Items.{opc, item_of}

@@ -11,7 +11,10 @@ use lib.ListN.{length, take, drop, get_or}
 use lib.Seq.{drop-cons}
 use Rattle.arm.specs.Bits.{bits}
 use Rattle.arm.specs.MoveWide.{decode, Regs, write, run}
+use Rattle.std.specs.Prelude.{Ok, Err, Result}
+use Rattle.words.specs.declared.Refusal.{Refusal}
 use Rattle.words.specs.declared.Refusal.TheVariants.{NoRoom}
+use Rattle.reader.specs.declared.Found.{Found}
 use Rattle.wide_moves.specs.Wide.{wide_of}
 use Rattle.wide_moves.proofs.Wides.{Passes, fields_of, read_move}
 use Rattle.items.specs.declared.Item.{Item}
@@ -20,7 +23,7 @@ use Rattle.items.specs.Items.{item_of}
 use Rattle.items.proofs.Cases.{itemed, by_item}
 use Rattle.reader.specs.declared.Constant.{Constant}
 use Rattle.reader.specs.declared.Span.{Span}
-use Rattle.reader.specs.declared.Found.TheVariants.{Joined, Single, End, No}
+use Rattle.reader.specs.declared.Found.TheVariants.{Joined, Single, End}
 use Rattle.reader.specs.Found.{span, keeps, leading, words_along, value_of, joined_of, found_item, found_of}
 use Rattle.reader.specs.Private.{FirstAt}
 use Rattle.reader.proofs.Joins.{leaves}
@@ -41,21 +44,24 @@ pub record Reads (ws : List ℕ) (at : ℕ) (c : Constant) (s : Span) : Type 0 w
   pub stands : s ≡ span at (at + c.count)
   pub leaves : (R : Regs) → run (take c.count (drop at ws)) R ≡ some (write R c.rd c.value)
 
+pub the_found : {f g : Found} → ◌≡◌ {A = Result Found Refusal} (Ok f) (Ok g) → f ≡ g
+the_found e = cc
+
 -- a constant comes from a MOVZ or a MOVN in the run
 pub record From (ws : List ℕ) (at : ℕ) (c : Constant) (s : Span) : Type 0 where
   pub first : FirstAt ws at (fields_of (get_or ws at 0))
   pub joined : let w = get_or ws at 0 in joined_of ws at (bits 31 31 w) (w % 32) ≡ Joined c s
 
-pub comes_from : (ws : List ℕ) (at : ℕ) (c : Constant) (s : Span) → found_of ws at ≡ Joined c s → From ws at c s
+pub comes_from : (ws : List ℕ) (at : ℕ) (c : Constant) (s : Span) → found_of ws at ≡ Ok (Joined c s) → From ws at c s
 comes_from ws at c s e = go (ltb at (length ws)) refl
   where
     no_single : {i : Item} {n : Span} → Single i n ≡ Joined c s → ⊥
     no_single q = let z : ◌≡◌ {A = ℕ} 0 1 = cc in omega arith
 
-    no_end : End ≡ Joined c s → ⊥
+    no_end : ◌≡◌ {A = Result Found Refusal} (Ok End) (Ok (Joined c s)) → ⊥
     no_end q = let z : ◌≡◌ {A = ℕ} 0 1 = cc in omega arith
 
-    no_past : No NoRoom ≡ Joined c s → ⊥
+    no_past : Err NoRoom ≡ Ok (Joined c s) → ⊥
     no_past q = let z : ◌≡◌ {A = ℕ} 0 1 = cc in omega arith
 
     by_opc : (l : at < length ws) → let w = get_or ws at 0 in Passes w → (b : Bool) → eqb (bits 30 29 w) 3 ≡ b
@@ -74,13 +80,13 @@ comes_from ws at c s e = go (ltb at (length ws)) refl
     outside false p h = let n : length ws ≡ at → ⊥ = eqb-false _ _ p in absurd (no_past (finds.past ws at (omega arith) ∙ e))
 
     go : (b : Bool) → ltb at (length ws) ≡ b → From ws at c s
-    go true l = let h = ltb-true _ _ l in inside h (sym (finds.inside ws at h) ∙ e)
+    go true l = let h = ltb-true _ _ l in inside h (the_found (sym (finds.inside ws at h) ∙ e))
     go false l = outside (eqb (length ws) at) refl (ltb-false _ _ l)
 
 pub same_joined : {c d : Constant} {n m : Span} → Joined c n ≡ Joined d m → (c ≡ d) × (n ≡ m)
 same_joined q = (cc, cc)
 
-pub constant_leaves : (ws : List ℕ) (at : ℕ) (c : Constant) (s : Span) → found_of ws at ≡ Joined c s → Reads ws at c s
+pub constant_leaves : (ws : List ℕ) (at : ℕ) (c : Constant) (s : Span) → found_of ws at ≡ Ok (Joined c s) → Reads ws at c s
 unfolding joined_of
 constant_leaves ws at c s e =
     let t = comes_from ws at c s e in

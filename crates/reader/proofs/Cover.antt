@@ -1,32 +1,22 @@
 -- Reading on from each item's end covers the run: every word belongs to exactly one item. Assumes nothing.
 use mathlib.Core.Path.{◌≡◌, refl, ap}
 use mathlib.Core.Bool.{Bool, true, false, cond}
-use mathlib.Core.List.{List, [], ◌∷◌}
+use mathlib.Core.List.{List}
 use mathlib.Core.Option.{Option, some}
 use Prim.Native.Nat.{ℕ, zero, suc, ◌+◌, ◌-◌, ◌≤◌, ◌<◌}
 use native.Mathlib.Omega.{arith}
 use borrow.Author.Tests.{le-leb, lt-leb, ltb-true, ltb-false}
 use lib.Dec.{eqb, ltb}
 use lib.ListN.{length, drop, get_or, length-drop}
-use Rattle.arm.specs.MoveWide.{decode}
-use Rattle.wide_moves.specs.Wide.{wide_of}
 use Rattle.items.specs.declared.Item.{Item}
 use Rattle.items.specs.declared.Item.TheVariants as item
 use Rattle.items.specs.Items.{item_of}
 use Rattle.reader.specs.declared.Found.TheVariants.{Single}
 use Rattle.reader.specs.declared.Span.{Span}
-use Rattle.reader.specs.Found.{span, keeps, leading, words_along, joined_of, found_item, found_of}
-use Rattle.reader.specs.Cover.{span_of, on_to, spans, holding}
+use Rattle.reader.specs.Found.{span, words_along, joined_of, found_item, found_of}
+use Rattle.reader.specs.Cover.{found_span, span_of, on_to, spans, holding}
+use Rattle.reader.proofs.Joins.{leading_le}
 use Rattle.reader.proofs.Finds as finds
-
-leading_le : (sf rd : ℕ) (ws : List ℕ) → length (leading sf rd ws) ≤ length ws
-unfolding leading
-leading_le sf rd [] = omega arith
-leading_le sf rd (w ∷ ws) = go (keeps sf rd (wide_of (decode w))) (leading_le sf rd ws)
-  where
-    go : (b : Bool) → length (leading sf rd ws) ≤ length ws → length (cond b (w ∷ leading sf rd ws) []) ≤ suc (length ws)
-    go true h = omega arith
-    go false h = omega arith
 
 -- an item stands at the position, and the next one begins after it, in the run or at its end
 pub record Onward (ws : List ℕ) (at : ℕ) (a : Option Span) : Type 0 where
@@ -36,7 +26,7 @@ pub record Onward (ws : List ℕ) (at : ℕ) (a : Option Span) : Type 0 where
   pub within : next ≤ length ws
 
 module _ (ws : List ℕ) (at : ℕ) (l : at < length ws) where
-  onward_joined : (sf rd : ℕ) → Onward ws at (span_of (joined_of ws at sf rd))
+  onward_joined : (sf rd : ℕ) → Onward ws at (found_span (joined_of ws at sf rd))
   unfolding joined_of
   onward_joined sf rd = record {
     next = at + length (words_along ws at sf rd);
@@ -48,10 +38,10 @@ module _ (ws : List ℕ) (at : ℕ) (l : at < length ws) where
   single : Onward ws at (some (span at (at + 1)))
   single = record { next = at + 1; is = refl; later = omega arith; within = omega arith }
 
-  onward_item : (i : Item) → Onward ws at (span_of (found_item ws at i))
+  onward_item : (i : Item) → Onward ws at (found_span (found_item ws at i))
   onward_item (item.Wide m) = go (eqb m.opc 3)
     where
-      go : (b : Bool) → Onward ws at (span_of (cond b (Single (item.Wide m) (span at (at + 1))) (joined_of ws at m.sf m.rd)))
+      go : (b : Bool) → Onward ws at (found_span (cond b (Single (item.Wide m) (span at (at + 1))) (joined_of ws at m.sf m.rd)))
       go true = single
       go false = onward_joined m.sf m.rd
   onward_item (item.Logical x) = single

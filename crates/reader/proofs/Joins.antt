@@ -5,28 +5,29 @@ use mathlib.Core.Logic.{⊎_elim}
 use mathlib.Core.List.{List, [], ◌∷◌}
 use mathlib.Core.Option.{some}
 use Prim.Native.Nat.{ℕ, zero, suc, ◌+◌, ◌-◌, ◌*◌, ◌%◌, ◌^◌, ◌≤◌, ◌<◌}
-use native.Mathlib.Nat.{mod-eq_of_lt}
+use native.Mathlib.Nat.{mod-eq_of_lt, lt_of_lt_of_le}
 use native.Mathlib.Numerals.{add-one}
 use native.Mathlib.Omega.{arith}
-use borrow.Author.Tests.{eq-eqb, ne_eqb, eqb-true, lt-ltb, le-ltb}
+use borrow.Author.Tests.{eq-eqb, ne_eqb, eqb-true, le-ltb}
 use lib.Dec.{eqb}
-use lib.ListN.{length, drop, get_or}
+use lib.ListN.{length, take, drop, get_or, length-drop}
 use lib.Pow.{pow_pos, le_ones}
-use lib.Seq.{drop-cons, drop-length}
+use lib.Seq.{drop-cons, drop-length, take-length}
 use Rattle.arm.specs.Bits.{bits, Ones}
 use Rattle.arm.specs.MoveWide.{Op, MOVN, MOVZ, MOVK, op_of, decode, Regs, write, datasize, insert, result, run}
 use Rattle.arm.proofs.Tests.{never}
 use Rattle.arm.proofs.Wide.{insert_lt, write_write, write_same}
-use Rattle.words.specs.declared.Refusal.TheVariants.{Width, Register, NoField, NoRoom}
 use Rattle.wide_moves.specs.Wide.{wide_of, opc_of}
-use Rattle.wide_moves.specs.declared.WideAnswer.TheVariants.{Move, NoMove}
 use Rattle.wide_moves.specs.declared.WideMove.{WideMove}
 use Rattle.wide_moves.proofs.Wides.{Known, known, Passes, read_move, wide_cases, moves_back, ran_word}
 use Rattle.items.proofs.Cases.{wide_back}
 use Rattle.reader.specs.declared.Constant.{Constant}
-use Rattle.reader.specs.declared.Found.TheVariants.{Joined, No}
-use Rattle.reader.specs.Found.{span, keeps, leading, words_along, left_in, value_of, joined_of, joined_on, resumed_of}
-use Rattle.reader.specs.Private.{FirstAt, first_of}
+use Rattle.reader.specs.declared.Span.{Span}
+use Rattle.reader.specs.declared.Found.TheVariants.{Joined}
+use Rattle.reader.specs.Found.{span, keeps, leading, words_along, left_in, value_of, joined_of, with_movks, joined_on, resumed_of}
+use Rattle.reader.specs.Private.{FirstAt, first_of, kept_of}
+use Rattle.std.specs.Prelude.{None, Some, Ok}
+use Rattle.std.specs.Prelude.{Option as RustOption}
 
 -- ---- the first word
 
@@ -39,7 +40,7 @@ first_left o size pos h old k n = go k.op k.back
     go MOVZ e = rw (← e)
     go MOVK e = absurd (n (sym e))
 
-module _ (w : ℕ) {m : WideMove} (e : Move m ≡ wide_of (decode w)) (n : m.opc ≡ 3 → ⊥) where
+module _ (w : ℕ) {m : WideMove} (e : Some m ≡ wide_of (decode w)) (n : m.opc ≡ 3 → ⊥) where
   pub first_run : (ws : List ℕ) (R : Regs) → run (w ∷ ws) R ≡ run ws (write R m.rd (first_of m))
   first_run ws R =
       let b = moves_back w e in
@@ -49,7 +50,7 @@ module _ (w : ℕ) {m : WideMove} (e : Move m ≡ wide_of (decode w)) (n : m.opc
       ∙ ap (λ (x : ℕ). run ws (write R (w % 32) x)) (first_left (bits 30 29 w) (datasize (bits 31 31 w)) (16 * bits 22 21 w) (bits 20 5 w) (R (w % 32) % 2 ^ datasize (bits 31 31 w)) k o))
 
 -- the fields of a wide move
-pub fields_small : (w : ℕ) {m : WideMove} → Move m ≡ wide_of (decode w) → (m.sf < 2) × (m.hw < 2 + 2 * m.sf) × (m.imm16 < 2 ^ 16)
+pub fields_small : (w : ℕ) {m : WideMove} → Some m ≡ wide_of (decode w) → (m.sf < 2) × (m.hw < 2 + 2 * m.sf) × (m.imm16 < 2 ^ 16)
 fields_small w e = let b = moves_back w e in rw b.1 (omega arith, b.0.size, omega arith)
 
 pub first-lt : (m : WideMove) → (m.sf < 2) × (m.hw < 2 + 2 * m.sf) × (m.imm16 < 2 ^ 16) → first_of m < 2 ^ datasize m.sf
@@ -74,9 +75,25 @@ module _ (m : WideMove) {x : ℕ} (e : x ≡ insert 0 (16 * m.hw) m.imm16) where
 
 -- ---- a MOVK
 
+-- what is kept of a word is a MOVK at the size and the register, and what is not is none
+kept_some : (sf rd : ℕ) (o : RustOption WideMove) {m : WideMove} → Some m ≡ kept_of sf rd o → (keeps sf rd o ≡ true) × (Some m ≡ o)
+kept_some sf rd o {m} = go (keeps sf rd o) refl
+  where
+    go : (b : Bool) → keeps sf rd o ≡ b → Some m ≡ cond b o None → (keeps sf rd o ≡ true) × (Some m ≡ o)
+    go true t e = (t, e)
+    go false t e = let z : ◌≡◌ {A = ℕ} 0 1 = cc in absurd (omega arith)
+
+kept_none : (sf rd : ℕ) (o : RustOption WideMove) → None ≡ kept_of sf rd o → keeps sf rd o ≡ false
+kept_none sf rd None e = refl
+kept_none sf rd (Some m) e = go (keeps sf rd (Some m)) refl e
+  where
+    go : (b : Bool) → keeps sf rd (Some m) ≡ b → None ≡ cond b (Some m) None → keeps sf rd (Some m) ≡ false
+    go true t e = let z : ◌≡◌ {A = ℕ} 0 1 = cc in absurd (omega arith)
+    go false t e = t
+
 pub kept_back : (sf rd w : ℕ) → keeps sf rd (wide_of (decode w)) ≡ true → Passes w × (bits 30 29 w ≡ 3) × (bits 31 31 w ≡ sf) × (w % 32 ≡ rd)
 kept_back sf rd w t = ⊎_elim
-    (λ (q : NoMove ≡ wide_of (decode w)). never (sym (rw (← q) at t)))
+    (λ (q : None ≡ wide_of (decode w)). never (sym (rw (← q) at t)))
     (λ (p : Passes w). all p (eqb (bits 30 29 w) 3) refl (eqb (bits 31 31 w) sf) refl (eqb (w % 32) rd) refl (rw (← read_move w p) at t))
     (wide_cases w)
   where
@@ -102,69 +119,113 @@ module _ (sf rd w : ℕ) (t : keeps sf rd (wide_of (decode w)) ≡ true) where
       rw (b.2, b.3) at (ran_word w b.0 ws (write R rd x) k)
       ∙ ap (run ws) (write_write R rd x _ ∙ ap (λ (y : ℕ). write R rd (insert y (16 * bits 22 21 w) (bits 20 5 w))) old)
 
--- ---- the invariant
-
-pub size-le : (sf : ℕ) → sf < 2 → 2 ^ datasize sf ≤ 2 ^ 64
+size-le : (sf : ℕ) → sf < 2 → 2 ^ datasize sf ≤ 2 ^ 64
 size-le zero l = omega arith
 size-le (suc zero) l = omega arith
 size-le (suc (suc s)) l = absurd (omega arith)
 
-pub record Joining (ws : List ℕ) (at sf rd x i : ℕ) : Type 0 where
-  pub low : at < i
-  pub high : i ≤ length ws
-  pub size : sf < 2
-  pub small : x < 2 ^ datasize sf
-  pub spans : at + length (words_along ws at sf rd) ≡ i + length (leading sf rd (drop i ws))
-  pub runs : (R : Regs) → run (words_along ws at sf rd) R ≡ run (leading sf rd (drop i ws)) (write R rd x)
+pub leading_le : (sf rd : ℕ) (ws : List ℕ) → length (leading sf rd ws) ≤ length ws
+unfolding leading
+leading_le sf rd [] = omega arith
+leading_le sf rd (w ∷ ws) = go (keeps sf rd (wide_of (decode w))) (leading_le sf rd ws)
+  where
+    go : (b : Bool) → length (leading sf rd ws) ≤ length ws → length (cond b (w ∷ leading sf rd ws) []) ≤ suc (length ws)
+    go true h = omega arith
+    go false h = omega arith
 
-module _ {ws : List ℕ} {at : ℕ} where
-  pub starts : {m : WideMove} {x : ℕ} → FirstAt ws at m → x ≡ first_of m → Joining ws at m.sf m.rd x (at + 1)
-  starts {m} f e =
-      let s = fields_small (get_or ws at 0) (wide_back (get_or ws at 0) f.read) in
-      rw (e, add-one at) (record {
-        low = omega arith;
-        high = f.inside;
-        size = s.0;
-        small = first-lt m s;
-        spans = omega arith;
-        runs = λ R. first_run (get_or ws at 0) (wide_back (get_or ws at 0) f.read) f.first (leading m.sf m.rd (drop (suc at) ws)) R;
+-- the invariant: the MOVK words of a run, of which i are read, leave what those behind them leave from the value so far
+pub record Going (ws : List ℕ) (c d : Constant) (i : ℕ) : Type 0 where
+  pub sf : d.sf ≡ c.sf
+  pub rd : d.rd ≡ c.rd
+  pub count : d.count ≡ c.count + i
+  pub size : c.sf < 2
+  pub small : d.value < 2 ^ datasize c.sf
+  pub spans : length (leading c.sf c.rd ws) ≡ i + length (leading c.sf c.rd (drop i ws))
+  pub runs : (R : Regs) → run (leading c.sf c.rd ws) (write R c.rd c.value) ≡ run (leading c.sf c.rd (drop i ws)) (write R c.rd d.value)
+
+pub goes : (ws : List ℕ) (c : Constant) → c.sf < 2 → c.value ≤ Ones (datasize c.sf) → Going ws c c 0
+goes ws c l h =
+    record { sf = refl; rd = refl; count = omega arith; size = l; small = omega (arith, pow_pos (datasize c.sf)); spans = omega arith; runs = λ R. refl }
+
+module _ {ws : List ℕ} {c d : Constant} {i : ℕ} (j : Going ws c d i) where
+  lead : i < length ws → (b : Bool) → keeps c.sf c.rd (wide_of (decode (get_or ws i 0))) ≡ b
+      → leading c.sf c.rd (drop i ws) ≡ cond b (get_or ws i 0 ∷ leading c.sf c.rd (drop (suc i) ws)) []
+  unfolding leading
+  lead l b t = ap (leading c.sf c.rd) (drop-cons ws i 0 l) ∙ rw t
+
+  ended : leading c.sf c.rd (drop i ws) ≡ [] → d ≡ with_movks ws c
+  unfolding run
+  ended e =
+      let k : length (leading c.sf c.rd ws) ≡ i = omega (arith, j.spans, ap length e) in
+      let v : left_in c.rd (run (leading c.sf c.rd ws) (write (λ k. 0) c.rd c.value)) ≡ d.value =
+      ap (left_in c.rd) (j.runs (λ k. 0) ∙ ap (λ (l : List ℕ). run l (write (λ k. 0) c.rd d.value)) e) ∙ write_same (λ k. 0) c.rd d.value in
+      rw (v, k, ← j.sf, ← j.rd, ← j.count) refl
+
+  pub onward : i < length ws → {m : WideMove} → Some m ≡ kept_of d.sf d.rd (wide_of (decode (get_or ws i 0)))
+      → {x : ℕ} → x ≡ insert d.value (16 * m.hw) m.imm16 → Going ws c (record { sf = d.sf; rd = d.rd; value = x; count = d.count + 1 }) (i + 1)
+  onward l {m} k q =
+      let w = get_or ws i 0 in
+      let h = kept_some c.sf c.rd (wide_of (decode w)) (rw (j.sf, j.rd) at k) in
+      let f = (moves_back w h.1).1 in
+      let e = lead l true h.0 in
+      rw (add-one i, q, f) (record {
+        sf = j.sf;
+        rd = j.rd;
+        count = omega (arith, j.count);
+        size = j.size;
+        small = kept-lt c.sf c.rd w h.0 d.value j.small;
+        spans = omega (arith, j.spans, ap length e);
+        runs = λ R. j.runs R ∙ ap (λ (l : List ℕ). run l (write R c.rd d.value)) e ∙ kept_run c.sf c.rd w h.0 (leading c.sf c.rd (drop (suc i) ws)) R d.value j.small;
       })
 
-  module _ {sf rd x i : ℕ} (j : Joining ws at sf rd x i) where
-    lead : i < length ws → (b : Bool) → keeps sf rd (wide_of (decode (get_or ws i 0))) ≡ b
-        → leading sf rd (drop i ws) ≡ cond b (get_or ws i 0 ∷ leading sf rd (drop (suc i) ws)) []
-    unfolding leading
-    lead l b t = ap (leading sf rd) (drop-cons ws i 0 l) ∙ rw t
+  -- what is put in is small
+  pub kept_small : (w : ℕ) {m : WideMove} → Some m ≡ kept_of d.sf d.rd (wide_of (decode w)) → (d.value < 2 ^ 64) × (m.hw < 4) × (m.imm16 < 2 ^ 16)
+  kept_small w k =
+      let s = fields_small w (kept_some d.sf d.rd (wide_of (decode w)) k).1 in
+      (lt_of_lt_of_le j.small (size-le c.sf j.size), omega (arith, s.0, s.1), s.2)
 
-    pub onward : i < length ws → keeps sf rd (wide_of (decode (get_or ws i 0))) ≡ true
-        → Joining ws at sf rd (insert x (16 * bits 22 21 (get_or ws i 0)) (bits 20 5 (get_or ws i 0))) (i + 1)
-    onward l t =
-        let w = get_or ws i 0 in
-        let e = lead l true t in
-        rw (add-one i) (record {
-          low = omega (arith, j.low);
-          high = l;
-          size = j.size;
-          small = kept-lt sf rd w t x j.small;
-          spans = omega (arith, j.spans, ap length e);
-          runs = λ R. j.runs R ∙ ap (λ (l : List ℕ). run l (write R rd x)) e ∙ kept_run sf rd w t (leading sf rd (drop (suc i) ws)) R x j.small;
-        })
+  pub stopped : i < length ws → None ≡ kept_of d.sf d.rd (wide_of (decode (get_or ws i 0))) → d ≡ with_movks ws c
+  stopped l k = ended (lead l false (kept_none c.sf c.rd (wide_of (decode (get_or ws i 0))) (rw (j.sf, j.rd) at k)))
 
-    ended : leading sf rd (drop i ws) ≡ [] → Joined (record { sf = sf; rd = rd; value = x; count = i - at }) (span at i) ≡ joined_of ws at sf rd
-    unfolding joined_of run
-    ended e =
-        let n : at + length (words_along ws at sf rd) ≡ i = omega (arith, j.spans, ap length e) in
-        let c : i - at ≡ length (words_along ws at sf rd) = omega arith in
-        let v : value_of rd (words_along ws at sf rd) ≡ x = ap (left_in rd) (j.runs (λ k. 0) ∙ ap (λ (l : List ℕ). run l (write (λ k. 0) rd x)) e) ∙ write_same (λ k. 0) rd x in
-        sym (rw (v, n, ← c))
+  pub at-end : length ws ≤ i → i ≤ length ws → d ≡ with_movks ws c
+  unfolding leading
+  at-end l h = let e : i ≡ length ws = omega arith in ended (ap (λ (n : ℕ). leading c.sf c.rd (drop n ws)) e ∙ ap (leading c.sf c.rd) (drop-length ws))
 
-    pub stopped : i < length ws → keeps sf rd (wide_of (decode (get_or ws i 0))) ≡ false
-        → Joined (record { sf = sf; rd = rd; value = x; count = i - at }) (span at i) ≡ joined_of ws at sf rd
-    stopped l t = ended (lead l false t)
+-- ---- the first word and the MOVK words behind it
 
-    pub at-end : length ws ≤ i → Joined (record { sf = sf; rd = rd; value = x; count = i - at }) (span at i) ≡ joined_of ws at sf rd
-    unfolding leading
-    at-end l = let e : i ≡ length ws = omega (arith, j.high) in ended (ap (λ (n : ℕ). leading sf rd (drop n ws)) e ∙ ap (leading sf rd) (drop-length ws))
+module _ {ws : List ℕ} {at : ℕ} {m : WideMove} (f : FirstAt ws at m) where
+  w-is : Some m ≡ wide_of (decode (get_or ws at 0))
+  w-is = wide_back (get_or ws at 0) f.read
+
+  pub first_ones : {x : ℕ} → x ≡ first_of m → (m.sf < 2) × (x ≤ Ones (datasize m.sf))
+  first_ones e = let s = fields_small (get_or ws at 0) w-is in (s.0, rw e (le_ones (datasize m.sf) (first-lt m s)))
+
+  -- the words behind it, as the code takes them
+  behind : take (length ws - (at + 1)) (drop (at + 1) ws) ≡ drop (suc at) ws
+  behind =
+      let n : length ws - (at + 1) ≡ length (drop (suc at) ws) = omega (arith, length-drop (suc at) ws) in
+      rw (n, add-one at) (take-length (drop (suc at) ws))
+
+  pub behind_length : at + 1 + length (take (length ws - (at + 1)) (drop (at + 1) ws)) ≡ length ws
+  behind_length = omega (arith, f.inside, ap length behind, length-drop (suc at) ws)
+
+  -- its constant ends in the run
+  pub joined_within : (d : Constant) {c : Constant} → c ≡ with_movks (take (length ws - (at + 1)) (drop (at + 1) ws)) d → d.count ≡ 1 → at + c.count ≤ length ws
+  joined_within d {c} q n =
+      let l = leading_le d.sf d.rd (take (length ws - (at + 1)) (drop (at + 1) ws)) in
+      let k : c.count ≡ d.count + length (leading d.sf d.rd (take (length ws - (at + 1)) (drop (at + 1) ws))) = ap (λ (e : Constant). e.count) q in
+      omega (arith, l, k, behind_length)
+
+  pub joins : {x : ℕ} {c : Constant} {s : Span} → x ≡ first_of m
+      → c ≡ with_movks (take (length ws - (at + 1)) (drop (at + 1) ws)) (record { sf = m.sf; rd = m.rd; value = x; count = 1 })
+      → s ≡ span at (at + c.count) → Joined c s ≡ joined_of ws at m.sf m.rd
+  unfolding joined_of
+  joins {x} {c} e q t =
+      let ms = leading m.sf m.rd (drop (suc at) ws) in
+      let v : left_in m.rd (run ms (write (λ k. 0) m.rd (first_of m))) ≡ value_of m.rd (words_along ws at m.sf m.rd) =
+      ap (left_in m.rd) (sym (first_run (get_or ws at 0) w-is f.first ms (λ k. 0))) in
+      let n : 1 + length ms ≡ suc (length ms) = omega arith in
+      rw (t, q, behind, e, v, n) refl
 
 -- ---- a joined constant is what its words leave, from any content
 
@@ -191,78 +252,15 @@ leaves {ws} {at} {m} f =
     let v : value_of m.rd (get_or ws at 0 ∷ ms) ≡ i.0 = ap (left_in m.rd) (runs (λ k. 0)) ∙ write_same (λ k. 0) m.rd i.0 in
     (rw v i.1, λ R. runs R ∙ ap (λ (k : ℕ). some (write R m.rd k)) (sym v))
 
--- ---- a constant that goes on in the next piece
+-- the span of a constant that went on, by its count
+pub went_on : (ws : List ℕ) (c : Constant) {d : Constant} {s : Span} → d ≡ with_movks ws c → s ≡ span 0 (d.count - c.count) → Joined d s ≡ joined_on ws c
+unfolding joined_on
+went_on ws c q e =
+    let n : c.count + length (leading c.sf c.rd ws) - c.count ≡ length (leading c.sf c.rd ws) = omega arith in
+    rw (e, q, n) refl
 
-pub record Resuming (ws : List ℕ) (sf rd y x i : ℕ) : Type 0 where
-  pub high : i ≤ length ws
-  pub size : sf < 2
-  pub small : x < 2 ^ datasize sf
-  pub spans : length (leading sf rd ws) ≡ i + length (leading sf rd (drop i ws))
-  pub runs : (R : Regs) → run (leading sf rd ws) (write R rd y) ≡ run (leading sf rd (drop i ws)) (write R rd x)
-
-pub resumes : (ws : List ℕ) (sf rd y : ℕ) → sf < 2 → y ≤ Ones (datasize sf) → Resuming ws sf rd y y 0
-resumes ws sf rd y l h = record { high = omega arith; size = l; small = omega (arith, pow_pos (datasize sf)); spans = omega arith; runs = λ R. refl }
-
-module _ {ws : List ℕ} {sf rd y x i : ℕ} (j : Resuming ws sf rd y x i) where
-  lead_on : i < length ws → (b : Bool) → keeps sf rd (wide_of (decode (get_or ws i 0))) ≡ b
-      → leading sf rd (drop i ws) ≡ cond b (get_or ws i 0 ∷ leading sf rd (drop (suc i) ws)) []
-  unfolding leading
-  lead_on l b t = ap (leading sf rd) (drop-cons ws i 0 l) ∙ rw t
-
-  pub resumes_on : i < length ws → keeps sf rd (wide_of (decode (get_or ws i 0))) ≡ true
-      → Resuming ws sf rd y (insert x (16 * bits 22 21 (get_or ws i 0)) (bits 20 5 (get_or ws i 0))) (i + 1)
-  resumes_on l t =
-      let w = get_or ws i 0 in
-      let e = lead_on l true t in
-      rw (add-one i) (record {
-        high = l;
-        size = j.size;
-        small = kept-lt sf rd w t x j.small;
-        spans = omega (arith, j.spans, ap length e);
-        runs = λ R. j.runs R ∙ ap (λ (l : List ℕ). run l (write R rd x)) e ∙ kept_run sf rd w t (leading sf rd (drop (suc i) ws)) R x j.small;
-      })
-
-  on_ended : (n : ℕ) → leading sf rd (drop i ws) ≡ []
-      → Joined (record { sf = sf; rd = rd; value = x; count = n + i }) (span 0 i) ≡ joined_on ws (record { sf = sf; rd = rd; value = y; count = n })
-  unfolding joined_on run
-  on_ended n e =
-      let k : length (leading sf rd ws) ≡ i = omega (arith, j.spans, ap length e) in
-      let v : left_in rd (run (leading sf rd ws) (write (λ k. 0) rd y)) ≡ x =
-      ap (left_in rd) (j.runs (λ k. 0) ∙ ap (λ (l : List ℕ). run l (write (λ k. 0) rd x)) e) ∙ write_same (λ k. 0) rd x in
-      sym (rw (v, k))
-
-  pub resume_stopped : (n : ℕ) → i < length ws → keeps sf rd (wide_of (decode (get_or ws i 0))) ≡ false
-      → Joined (record { sf = sf; rd = rd; value = x; count = n + i }) (span 0 i) ≡ joined_on ws (record { sf = sf; rd = rd; value = y; count = n })
-  resume_stopped n l t = on_ended n (lead_on l false t)
-
-  pub resume_at_end : (n : ℕ) → length ws ≤ i
-      → Joined (record { sf = sf; rd = rd; value = x; count = n + i }) (span 0 i) ≡ joined_on ws (record { sf = sf; rd = rd; value = y; count = n })
-  unfolding leading
-  resume_at_end n l = let e : i ≡ length ws = omega (arith, j.high) in on_ended n (ap (λ (n : ℕ). leading sf rd (drop n ws)) e ∙ ap (leading sf rd) (drop-length ws))
-
--- the cases of what is said
-module _ (ws : List ℕ) (c : Constant) where
-  pub resume_size : 1 < c.sf → No Width ≡ resumed_of ws c
-  unfolding resumed_of
-  resume_size a = sym (rw (lt-ltb 1 c.sf a))
-
-  module _ (a : c.sf ≤ 1) where
-    pub resume_register : 30 < c.rd → No Register ≡ resumed_of ws c
-    unfolding resumed_of
-    resume_register r = sym (rw (le-ltb 1 c.sf a, lt-ltb 30 c.rd r))
-
-    module _ (r : c.rd ≤ 30) where
-      pub resume_value : Ones (datasize c.sf) < c.value → No NoField ≡ resumed_of ws c
-      unfolding resumed_of
-      resume_value b = sym (rw (le-ltb 1 c.sf a, le-ltb 30 c.rd r, lt-ltb (Ones (datasize c.sf)) c.value b))
-
-      module _ (b : c.value ≤ Ones (datasize c.sf)) where
-        pub resume_many : 2 ^ 64 - 1 - c.count < length ws → No NoRoom ≡ resumed_of ws c
-        unfolding resumed_of
-        resume_many d =
-            sym (rw (le-ltb 1 c.sf a, le-ltb 30 c.rd r, le-ltb (Ones (datasize c.sf)) c.value b, lt-ltb (2 ^ 64 - 1 - c.count) (length ws) d))
-
-        pub resume_is : length ws ≤ 2 ^ 64 - 1 - c.count → joined_on ws c ≡ resumed_of ws c
-        unfolding resumed_of
-        resume_is d =
-            sym (rw (le-ltb 1 c.sf a, le-ltb 30 c.rd r, le-ltb (Ones (datasize c.sf)) c.value b, le-ltb (2 ^ 64 - 1 - c.count) (length ws) d))
+-- where nothing is refused
+pub resume_is : (ws : List ℕ) (c : Constant) → c.sf ≤ 1 → c.rd ≤ 30 → c.value ≤ Ones (datasize c.sf) → length ws ≤ 2 ^ 64 - 1 - c.count → Ok (joined_on ws c) ≡ resumed_of ws c
+unfolding resumed_of
+resume_is ws c a r b d =
+    sym (rw (le-ltb 1 c.sf a, le-ltb 30 c.rd r, le-ltb (Ones (datasize c.sf)) c.value b, le-ltb (2 ^ 64 - 1 - c.count) (length ws) d))

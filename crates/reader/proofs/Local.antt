@@ -14,6 +14,8 @@ use lib.Pow.{le_ones}
 use lib.Seq.{take-length, drop-append-le, get_or-drop, drop-drop}
 use Rattle.arm.specs.Bits.{bits}
 use Rattle.arm.specs.MoveWide.{Wide, decode, Regs, write, datasize, exec, then, run}
+use Rattle.std.specs.Prelude.{Ok, Err, Result}
+use Rattle.words.specs.declared.Refusal.{Refusal}
 use Rattle.words.specs.declared.Refusal.TheVariants.{NoRoom}
 use Rattle.wide_moves.specs.Wide.{wide_of}
 use Rattle.wide_moves.proofs.Wides.{fields_of, moves_back}
@@ -23,12 +25,12 @@ use Rattle.items.specs.Items.{item_of}
 use Rattle.items.proofs.Cases.{wide_back}
 use Rattle.reader.specs.declared.Constant.{Constant}
 use Rattle.reader.specs.declared.Found.{Found}
-use Rattle.reader.specs.declared.Found.TheVariants.{Joined, Single, End, No}
+use Rattle.reader.specs.declared.Found.TheVariants.{Joined, Single, End}
 use Rattle.reader.specs.declared.Span.{Span}
 use Rattle.reader.specs.Found.{span, keeps, leading, words_along, left_in, value_of, joined_of, joined_on, resumed_of, found_item, found_of}
-use Rattle.reader.specs.Cover.{span_of, moved_by, gone_on}
+use Rattle.reader.specs.Cover.{found_span, span_of, found_moved, moved_by, gone_on}
 use Rattle.reader.proofs.Joins.{leaves, resume_is}
-use Rattle.reader.proofs.Constants.{leading_take, comes_from}
+use Rattle.reader.proofs.Constants.{leading_take, the_found, comes_from}
 use Rattle.reader.proofs.Constants as constants
 use Rattle.reader.proofs.Finds as finds
 
@@ -54,14 +56,14 @@ leading_local sf rd (w ∷ a) b h = go (keeps sf rd (wide_of (decode w))) (λ l.
     go false ih l = refl
 
 module _ (a b : List ℕ) (at : ℕ) (l : at < length a) where
-  item_local : (i : Item) {s : Span} → span_of (found_item a at i) ≡ some s → s.next.0 < length a → found_item (a ++ b) at i ≡ found_item a at i
+  item_local : (i : Item) {s : Span} → found_span (found_item a at i) ≡ some s → s.next.0 < length a → found_item (a ++ b) at i ≡ found_item a at i
   unfolding joined_of
   item_local (item.Wide m) {s} e h = go (eqb m.opc 3) e
     where
       out : {x y : Span} → some x ≡ some y → x ≡ y
       out q = cc
 
-      go : (t : Bool) → span_of (cond t (Single (item.Wide m) (span at (at + 1))) (joined_of a at m.sf m.rd)) ≡ some s
+      go : (t : Bool) → found_span (cond t (Single (item.Wide m) (span at (at + 1))) (joined_of a at m.sf m.rd)) ≡ some s
           → cond t (Single (item.Wide m) (span at (at + 1))) (joined_of (a ++ b) at m.sf m.rd) ≡ cond t (Single (item.Wide m) (span at (at + 1))) (joined_of a at m.sf m.rd)
       go true q = refl
       go false q =
@@ -77,21 +79,21 @@ module _ (a b : List ℕ) (at : ℕ) (l : at < length a) where
 pub local : (a b : List ℕ) (at : ℕ) (s : Span) → at < length a → span_of (found_of a at) ≡ some s → s.next.0 < length a → found_of (a ++ b) at ≡ found_of a at
 local a b at s l e h =
     let k : at < length (a ++ b) = omega (arith, length-append a b) in
-    finds.inside (a ++ b) at k ∙ ap (λ (x : ℕ). found_item (a ++ b) at (item_of x)) (get_or-append a b 0 at l)
-    ∙ item_local a b at l (item_of (get_or a at 0)) (sym (ap span_of (finds.inside a at l)) ∙ e) h ∙ sym (finds.inside a at l)
+    finds.inside (a ++ b) at k ∙ ap (λ (x : ℕ). Ok (found_item (a ++ b) at (item_of x))) (get_or-append a b 0 at l)
+    ∙ ap Ok (item_local a b at l (item_of (get_or a at 0)) (sym (ap span_of (finds.inside a at l)) ∙ e) h) ∙ sym (finds.inside a at l)
 
 -- and an item of one word is not, wherever it ends
-pub local_single : (a b : List ℕ) (at : ℕ) (i : Item) (s : Span) → found_of a at ≡ Single i s → found_of (a ++ b) at ≡ Single i s
+pub local_single : (a b : List ℕ) (at : ℕ) (i : Item) (s : Span) → found_of a at ≡ Ok (Single i s) → found_of (a ++ b) at ≡ Ok (Single i s)
 unfolding joined_of
 local_single a b at i s e = go (ltb at (length a)) refl
   where
     no_joined : {c : Constant} {n : Span} → Joined c n ≡ Single i s → ⊥
     no_joined q = let z : ◌≡◌ {A = ℕ} 0 1 = cc in omega arith
 
-    no_end : End ≡ Single i s → ⊥
+    no_end : ◌≡◌ {A = Result Found Refusal} (Ok End) (Ok (Single i s)) → ⊥
     no_end q = let z : ◌≡◌ {A = ℕ} 0 1 = cc in omega arith
 
-    no_past : No NoRoom ≡ Single i s → ⊥
+    no_past : Err NoRoom ≡ Ok (Single i s) → ⊥
     no_past q = let z : ◌≡◌ {A = ℕ} 0 1 = cc in omega arith
 
     same : (j : Item) → found_item a at j ≡ Single i s → found_item (a ++ b) at j ≡ Single i s
@@ -105,22 +107,22 @@ local_single a b at i s e = go (ltb at (length a)) refl
     same (item.Displaced x) q = q
     same (item.Unknown x) q = q
 
-    outside : (t : Bool) → eqb (length a) at ≡ t → length a ≤ at → found_of (a ++ b) at ≡ Single i s
+    outside : (t : Bool) → eqb (length a) at ≡ t → length a ≤ at → found_of (a ++ b) at ≡ Ok (Single i s)
     outside true p h = absurd (no_end (finds.end a at (eqb-true _ _ p) ∙ e))
     outside false p h = let n : length a ≡ at → ⊥ = eqb-false _ _ p in absurd (no_past (finds.past a at (omega arith) ∙ e))
 
-    go : (t : Bool) → ltb at (length a) ≡ t → found_of (a ++ b) at ≡ Single i s
+    go : (t : Bool) → ltb at (length a) ≡ t → found_of (a ++ b) at ≡ Ok (Single i s)
     go true p =
         let l : at < length a = ltb-true _ _ p in
         let k : at < length (a ++ b) = omega (arith, length-append a b) in
-        finds.inside (a ++ b) at k ∙ ap (λ (x : ℕ). found_item (a ++ b) at (item_of x)) (get_or-append a b 0 at l)
-        ∙ same (item_of (get_or a at 0)) (sym (finds.inside a at l) ∙ e)
+        finds.inside (a ++ b) at k ∙ ap (λ (x : ℕ). Ok (found_item (a ++ b) at (item_of x))) (get_or-append a b 0 at l)
+        ∙ ap Ok (same (item_of (get_or a at 0)) (the_found (sym (finds.inside a at l) ∙ e)))
     go false p = outside (eqb (length a) at) refl (ltb-false _ _ p)
 
 -- ---- from a piece's start
 
 module _ (k : ℕ) (ws : List ℕ) (at : ℕ) where
-  item_shifted : (i : Item) → found_item ws (k + at) i ≡ moved_by k (found_item (drop k ws) at i)
+  item_shifted : (i : Item) → found_item ws (k + at) i ≡ found_moved k (found_item (drop k ws) at i)
   unfolding joined_of
   item_shifted (item.Wide m) = go (eqb m.opc 3)
     where
@@ -132,7 +134,7 @@ module _ (k : ℕ) (ws : List ℕ) (at : ℕ) where
       sum : (x : ℕ) → k + at + x ≡ k + (at + x)
       sum x = omega arith
 
-      go : (t : Bool) → cond t (Single (item.Wide m) (span (k + at) (k + at + 1))) (joined_of ws (k + at) m.sf m.rd) ≡ moved_by k (cond t (Single (item.Wide m) (span at (at + 1))) (joined_of (drop k ws) at m.sf m.rd))
+      go : (t : Bool) → cond t (Single (item.Wide m) (span (k + at) (k + at + 1))) (joined_of ws (k + at) m.sf m.rd) ≡ found_moved k (cond t (Single (item.Wide m) (span at (at + 1))) (joined_of (drop k ws) at m.sf m.rd))
       go true = ap (λ (n : ℕ). Single (item.Wide m) (span (k + at) n)) (sum 1)
       go false =
           let ms = words_along (drop k ws) at m.sf m.rd in
@@ -150,8 +152,8 @@ module _ (k : ℕ) (ws : List ℕ) (at : ℕ) where
       go : (b : Bool) → ltb at (length (drop k ws)) ≡ b → (c : Bool) → eqb (length (drop k ws)) at ≡ c → found_of ws (k + at) ≡ moved_by k (found_of (drop k ws) at)
       go true e c f =
           let l : at < length (drop k ws) = ltb-true _ _ e in
-          finds.inside ws (k + at) (omega (arith, n)) ∙ ap (λ (x : ℕ). found_item ws (k + at) (item_of x)) (sym (get_or-drop k ws at 0))
-          ∙ item_shifted (item_of (get_or (drop k ws) at 0)) ∙ sym (ap (moved_by k) (finds.inside (drop k ws) at l))
+          finds.inside ws (k + at) (omega (arith, n)) ∙ ap (λ (x : ℕ). Ok (found_item ws (k + at) (item_of x))) (sym (get_or-drop k ws at 0))
+          ∙ ap Ok (item_shifted (item_of (get_or (drop k ws) at 0))) ∙ sym (ap (moved_by k) (finds.inside (drop k ws) at l))
       go false e true f =
           let l : length (drop k ws) ≡ at = eqb-true _ _ f in
           sym (finds.end ws (k + at) (omega (arith, n))) ∙ ap (moved_by k) (finds.end (drop k ws) at l)
@@ -187,7 +189,7 @@ parts : (at sf rd : ℕ) {x y n m p q : ℕ} → x ≡ y → n ≡ m → p ≡ q
 parts at sf rd e f g = rw (e, f, g)
 
 -- a constant that reaches the end of a piece is the whole run's once the MOVK words at the start of the next piece have entered it
-pub carried : (a b : List ℕ) (at : ℕ) (c : Constant) → found_of a at ≡ Joined c (span at (length a)) → c.count + length b < 2 ^ 64
+pub carried : (a b : List ℕ) (at : ℕ) (c : Constant) → found_of a at ≡ Ok (Joined c (span at (length a))) → c.count + length b < 2 ^ 64
     → found_of (a ++ b) at ≡ gone_on at (length a) (resumed_of b c)
 unfolding joined_of joined_on
 carried a b at c e fits =
@@ -214,6 +216,6 @@ carried a b at c e fits =
     let count : length (w ∷ (rest ++ ms)) ≡ d.count + length ms = omega (arith, length-append rest ms, full) in
     let next : at + length (w ∷ (rest ++ ms)) ≡ length a + length ms = omega (arith, count, ends) in
     let same_count : d.count ≡ c.count = ap (λ (x : Constant). x.count) s.0 in
-    let fine : joined_on b d ≡ resumed_of b d = resume_is b d (omega arith) (omega arith) (le_ones (datasize sf) lv.0) (omega arith) in
+    let fine : Ok (joined_on b d) ≡ resumed_of b d = resume_is b d (omega arith) (omega arith) (le_ones (datasize sf) lv.0) (omega arith) in
     sym (finds.first (a ++ b) at k {m = fields_of w} (rw (get_or-append a b 0 at l) t.first.read) t.first.first)
-    ∙ ap (joined_by at sf rd) words ∙ parts at sf rd value count next ∙ ap (gone_on at (length a)) fine ∙ ap (λ (x : Constant). gone_on at (length a) (resumed_of b x)) s.0
+    ∙ ap Ok (ap (joined_by at sf rd) words ∙ parts at sf rd value count next) ∙ ap (gone_on at (length a)) fine ∙ ap (λ (x : Constant). gone_on at (length a) (resumed_of b x)) s.0

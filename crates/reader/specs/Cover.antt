@@ -1,17 +1,21 @@
 -- Reading on from each item's end, and a run in pieces. Assumes nothing.
-use Rattle.std.specs.Prelude.{cond, ◌&&◌, List, [], ◌∷◌, ℕ, zero, suc, ◌+◌, leb, ltb}
+use Rattle.std.specs.Prelude.{cond, ◌&&◌, List, [], ◌∷◌, ℕ, zero, suc, ◌+◌, leb, ltb, Result, Ok, Err}
 use Rattle.std.proofs.Math.Option.{Option, none, some}
+use Rattle.words.specs.declared.Refusal.{Refusal}
 use Rattle.reader.specs.declared.Found.{Found}
-use Rattle.reader.specs.declared.Found.TheVariants.{Joined, Single, End, No}
+use Rattle.reader.specs.declared.Found.TheVariants.{Joined, Single, End}
 use Rattle.reader.specs.declared.Span.{Span}
 use Rattle.reader.specs.Found.{span, found_of}
 
 -- the words of an item
-abbrev pub span_of : Found → Option Span
-span_of (Joined c s) = some s
-span_of (Single i s) = some s
-span_of End = none
-span_of (No r) = none
+abbrev pub found_span : Found → Option Span
+found_span (Joined c s) = some s
+found_span (Single i s) = some s
+found_span End = none
+
+abbrev pub span_of : Result Found Refusal → Option Span
+span_of (Ok f) = found_span f
+span_of (Err r) = none
 
 abbrev pub on_to : Option Span → (ℕ → List Span) → List Span
 on_to none rest = []
@@ -31,15 +35,21 @@ holding k (s ∷ ps) = cond (leb s.at.0 k && ltb k s.next.0) (suc (holding k ps)
 abbrev pub moved : ℕ → Span → Span
 moved k s = span (k + s.at.0) (k + s.next.0)
 
-abbrev pub moved_by : ℕ → Found → Found
-moved_by k (Joined c s) = Joined c (moved k s)
-moved_by k (Single i s) = Single i (moved k s)
-moved_by k End = End
-moved_by k (No r) = No r
+abbrev pub found_moved : ℕ → Found → Found
+found_moved k (Joined c s) = Joined c (moved k s)
+found_moved k (Single i s) = Single i (moved k s)
+found_moved k End = End
+
+abbrev pub moved_by : ℕ → Result Found Refusal → Result Found Refusal
+moved_by k (Ok f) = Ok (found_moved k f)
+moved_by k (Err r) = Err r
 
 -- a constant that began at a position and went on in the words from k on
-abbrev pub gone_on : ℕ → ℕ → Found → Found
-gone_on at k (Joined c s) = Joined c (span at (k + s.next.0))
-gone_on at k (Single i s) = Single i s
-gone_on at k End = End
-gone_on at k (No r) = No r
+abbrev pub found_on : ℕ → ℕ → Found → Found
+found_on at k (Joined c s) = Joined c (span at (k + s.next.0))
+found_on at k (Single i s) = Single i s
+found_on at k End = End
+
+abbrev pub gone_on : ℕ → ℕ → Result Found Refusal → Result Found Refusal
+gone_on at k (Ok f) = Ok (found_on at k f)
+gone_on at k (Err r) = Err r

@@ -1,16 +1,16 @@
 -- What the entries' answers are to a record. Assumes nothing.
 use mathlib.Core.Path.{◌≡◌, refl, sym, ap, ◌∙◌}
-use mathlib.Core.Bool.{Bool, true, false, not, cond}
+use mathlib.Core.Bool.{Bool, true, false, not, cond, ◌&&◌}
+use lib.Dec.{eqb}
+use lib.ListN.{get_or}
+use Rattle.std.proofs.Common.{ne_eqb}
 use mathlib.Core.List.{List}
 use Prim.Native.Nat.{ℕ}
 use Rattle.words.specs.Said.{Said, ok, no}
-use Rattle.words.specs.Answer.{number_of}
 use Rattle.words.specs.Listed.{list_of, words_of, listed, packed}
-use Rattle.words.specs.declared.Refusal.{Refusal}
 use Rattle.words.specs.declared.Words.{Words}
 use Rattle.words.proofs.Answers.{listed_packed}
 use Rattle.lines.specs.Item.{Item, bad_mark}
-use Rattle.lines.specs.declared.Answer.{Answer}
 use Rattle.lines.specs.declared.Answer.TheVariants as answer
 use Rattle.logical.specs.declared.LogicalImm.{LogicalImm}
 use Rattle.moves.specs.Moves.{mov_said}
@@ -27,11 +27,6 @@ module _ (rd v : ℕ) where
       let e : ◌≡◌ {A = Said (List ℕ)} (ok (list_of f)) (mov_said v rd) = ap listed h ∙ listed_packed (mov_said v rd) (mov_short v rd) in
       let p : ◌≡◌ {A = Said Words} (ok f) (ok (words_of (list_of f))) = h ∙ ap packed (sym e) in
       record { item = _; line = refl; plain = cc; says = ap words_line e }
-
-  pub move_not : (r : Refusal) → ◌≡◌ {A = Said Words} (no (number_of r)) (packed (mov_said v rd)) → OneLine (Says move rd v) (answer.No r)
-  move_not r h =
-      let e : ◌≡◌ {A = Said (List ℕ)} (no (number_of r)) (mov_said v rd) = ap listed h ∙ listed_packed (mov_said v rd) (mov_short v rd) in
-      record { item = _; line = refl; plain = tt; says = ap words_line e }
 
 -- ---- only a bad mark is the end
 
@@ -63,14 +58,20 @@ line_ends r offset i l = go (marked r) l
 
 -- ---- the mark is compared first
 
-module _ (r : List ℕ) (offset : ℕ) where
-  pub line_good : (i : Item) → marked r ≡ true → Says (asked_by (kind_of r)) (register_of r) (value_of r) i → LineOf r offset i
-  unfolding LineOf
-  line_good i m s = rw m s
+not_both : (a : Bool) {b : Bool} → b ≡ false → (a && b) ≡ false
+not_both true e = e
+not_both false e = refl
 
+module _ (r : List ℕ) (offset : ℕ) where
   pub line_bad : marked r ≡ false → LineOf r offset (bad_mark offset)
   unfolding LineOf
   line_bad m = rw m refl
 
-  pub answer_good : {a : Answer} → marked r ≡ true → OneLine (Says (asked_by (kind_of r)) (register_of r) (value_of r)) a → OneLine (LineOf r offset) a
-  answer_good m o = record { item = o.item; line = o.line; plain = o.plain; says = line_good o.item m o.says }
+  -- either byte of the mark may be the bad one
+  pub first_bad : (get_or r 0 0 ≡ 0x46 → ⊥) → OneLine (LineOf r offset) (answer.BadMark offset)
+  unfolding marked
+  first_bad h = record { item = _; line = refl; plain = tt; says = line_bad (simp (ne_eqb (get_or r 0 0) 0x46 h)) }
+
+  pub second_bad : (get_or r 1 0 ≡ 0x53 → ⊥) → OneLine (LineOf r offset) (answer.BadMark offset)
+  unfolding marked
+  second_bad h = record { item = _; line = refl; plain = tt; says = line_bad (not_both (eqb (get_or r 0 0) 0x46) (ne_eqb (get_or r 1 0) 0x53 h)) }

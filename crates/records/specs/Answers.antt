@@ -1,5 +1,6 @@
 -- Which answer by value says a line. Assumes nothing.
-use Rattle.std.specs.Prelude.{◌≡◌, [], ◌∷◌}
+use Rattle.std.specs.Prelude.{◌≡◌, [], ◌∷◌, Result, Ok, Err}
+use Rattle.words.specs.declared.Refusal.{Refusal}
 use Rattle.words.specs.Listed.{list_of, words_of}
 use Rattle.lines.specs.Item.{Item, items_of}
 use Rattle.lines.specs.declared.Answer.{Answer}
@@ -20,3 +21,8 @@ pub record OneLine (P : Item → Type 0) (a : Answer) : Type 0 where
   pub line : items_of a ≡ item ∷ []
   pub plain : Plain a
   pub says : P item
+
+-- an answer, or that of a refusal
+abbrev pub answer_in : Result Answer Refusal → Answer
+answer_in (Ok a) = a
+answer_in (Err r) = No r

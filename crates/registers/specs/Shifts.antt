@@ -1,14 +1,6 @@
 -- The shift map. Assumes nothing.
 use Rattle.std.specs.Prelude.{ℕ, cond, List, [], ◌∷◌, nat_lt, slice_index}
 use Rattle.words.specs.Said.{Said, ok, no}
-use Rattle.words.specs.Answer.{number_of}
-use Rattle.registers.specs.declared.ShiftAnswer.{ShiftAnswer}
-use Rattle.registers.specs.declared.ShiftAnswer.TheVariants.{Entry, NoEntry}
-
--- document 01's number and value for each answer
-abbrev pub said_entry : ShiftAnswer → Said ℕ
-said_entry (Entry x) = ok x
-said_entry (NoEntry r) = no (number_of r)
 
 -- "at 0..15: 3, 255 seven times, 2, 255 three times, 6, 7, 255, 255"
 abbrev pub shifts : List ℕ

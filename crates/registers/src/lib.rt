@@ -3,7 +3,8 @@
 
 ghost use Rattle.std.specs.Prelude.{◌≡◌, ◌&&◌};
 ghost use Rattle.registers.specs.Checks.{gp_ok, vec_ok, cond_field};
-ghost use Rattle.registers.specs.Shifts.{said_entry, shift_of};
+ghost use Rattle.registers.specs.Shifts.{shift_of};
+ghost use Rattle.words.specs.Answer.{said};
 
 use words::Refusal;
 
@@ -14,6 +15,7 @@ pub fn check_gp_id(id: u32, hi: u32) -> bool
     id < 31 || id == hi
 }
 
+// Stays: the entries for two and three ids are public by these names, and a conjunction in a line is plainer than one function over an array of ids.
 pub fn check_gp_id2(id0: u32, id1: u32, hi: u32) -> bool
     ensures { result ≡ (gp_ok id0 hi && gp_ok id1 hi) }
 {
@@ -33,6 +35,7 @@ pub fn check_vec_id(id: u32) -> bool
     id < 32
 }
 
+// Stays: as of the general registers.
 pub fn check_vec_id2(id0: u32, id1: u32) -> bool
     ensures { result ≡ (vec_ok id0 && vec_ok id1) }
 {
@@ -49,32 +52,17 @@ pub fn check_vec_id3(id0: u32, id1: u32, id2: u32) -> bool
 pub fn cond_code_to_opcode_field(cond: u32) -> u32
     ensures { result ≡ cond_field cond }
 {
-    std::num::wrapping_sub_u32(cond, 2) % 16
+    cond.wrapping_sub(2) % 16
 }
 
 const SHIFT_OP_TO_LD_ST_OP_MAP: [u8; 16] = [
     3, 255, 255, 255, 255, 255, 255, 255, 2, 255, 255, 255, 6, 7, 255, 255,
 ];
 
-// An entry of the map; 255, which stands for none, is an ordinary answer.
-#[derive(Clone, Copy)]
-pub enum ShiftAnswer {
-    Entry(u32),
-    NoEntry(Refusal),
-}
-
-fn wide(x: u8) -> u32
-    ensures { result ≡ x }
-{
-    x as u32
-}
-
 // What a load or store has for a shift operation.
-pub fn shift_op_to_ld_st_op(op: u32) -> ShiftAnswer
-    ensures { said_entry result ≡ shift_of op }
+pub fn shift_op_to_ld_st_op(op: u32) -> Result<u32, Refusal>
+    ensures { said result ≡ shift_of op }
 {
-    if 15 < op {
-        return ShiftAnswer::NoEntry(Refusal::Unknown);
-    }
-    ShiftAnswer::Entry(wide(SHIFT_OP_TO_LD_ST_OP_MAP[op as usize]))
+    let entry = SHIFT_OP_TO_LD_ST_OP_MAP.get(op as usize);
+    entry.map(|&e| u32::from(e)).ok_or(Refusal::Unknown)
 }

@@ -5,14 +5,15 @@
 mod answers;
 mod runs;
 
-ghost use Rattle.std.specs.Prelude.{◌<◌, ◌≤◌};
-ghost use Rattle.std.specs.Io.{ReadsAtMost};
-ghost use Rattle.requests.specs.Streams.{OnlyAdds, OnlyTakes};
+ghost use Rattle.std.specs.Prelude.{◌<◌};
+ghost use Rattle.streams.specs.Streams.{OnlyTakes};
+ghost use Rattle.requests.specs.Streams.{OnlyAdds};
 
 use std::io;
 use std::io::{ErrorKind, Read, Write};
 
 // The entry's number and its arguments.
+// Stays: the number is matched where its entry is called; an enum of some thirty entries would be matched twice.
 #[derive(Clone, Copy)]
 pub(crate) struct Request {
     pub(crate) entry: u64,
@@ -26,26 +27,12 @@ pub(crate) struct Request {
     pub(crate) h: u64,
 }
 
-pub(crate) fn wide(x: u8) -> u32
-    ensures { result < 256 }
-{
-    x as u32
-}
-
-// Four bytes as a number.
-fn half(bytes: &[u8; 72], i: usize) -> u64
-    requires { i ≤ 68 }
-    ensures { result < 4294967296 }
-{
-    let low = wide(bytes[i]) + wide(bytes[i + 1]) * 256;
-    let high = wide(bytes[i + 2]) + wide(bytes[i + 3]) * 256;
-    (low + high * 65536) as u64
-}
-
+// One of a request's numbers.
 fn number(bytes: &[u8; 72], k: usize) -> u64
     requires { k < 9 }
 {
-    half(bytes, k * 8) + half(bytes, k * 8 + 4) * 4294967296
+    let (numbers, _) = bytes.as_chunks::<8>();
+    u64::from_le_bytes(numbers[k])
 }
 
 fn read(bytes: &[u8; 72]) -> Request {
@@ -67,27 +54,13 @@ pub(crate) fn low(x: u64) -> u32 {
     (x % 4294967296) as u32
 }
 
-// Reads until the run is full or the input ends, and says how many bytes stand at its start.
-fn read_full<R: Read>(input: &mut R, buf: &mut [u8]) -> io::Result<usize>
-    ensures in_bounds { ReadsAtMost result buf.new }
-    ensures front { OnlyTakes (R.remaining input.old) (R.remaining input.new) }
-{
-    let mut done = 0;
-    while done < buf.len() {
-        let n = input.read(&mut buf[done..])?;
-        if n == 0 {
-            break;
-        }
-        done += n;
-    }
-    Ok(done)
-}
-
 // Writes all of a run; or a write fails, or takes nothing, when some of it may have been written.
 fn write_all<W: Write>(output: &mut W, buf: &[u8]) -> io::Result<()>
     ensures { OnlyAdds (W.contents output.old) (W.contents output.new) }
 {
     let mut done = 0;
+    // Stays: how far a turn goes is what the write answers, so there is no range to go over; of a failure std's `write_all` does not say that
+    // bytes were only added.
     while done < buf.len() {
         let n = output.write(&buf[done..])?;
         if n == 0 {
@@ -99,7 +72,7 @@ fn write_all<W: Write>(output: &mut W, buf: &[u8]) -> io::Result<()>
 }
 
 // The lines of one request.
-fn respond<W: Write>(bytes: &[u8; 72], out: &mut [u8], output: &mut W) -> io::Result<()>
+fn respond<W: Write>(bytes: &[u8; 72], out: &mut [u8; 512], output: &mut W) -> io::Result<()>
     ensures { OnlyAdds (W.contents output.old) (W.contents output.new) }
 {
     let n = runs::lines_of(read(bytes), out);
@@ -107,12 +80,6 @@ fn respond<W: Write>(bytes: &[u8; 72], out: &mut [u8], output: &mut W) -> io::Re
         write_all(output, &out[..n])?;
     }
     Ok(())
-}
-
-fn respond_in<W: Write>(bytes: &[u8; 72], out: &mut [u8; 512], output: &mut W) -> io::Result<()>
-    ensures { OnlyAdds (W.contents output.old) (W.contents output.new) }
-{
-    respond(bytes, out, output)
 }
 
 // Answers every whole request of the input on the output, each before the next one is read; what it prints is compared. A read or a write that fails
@@ -124,10 +91,10 @@ pub fn answer_all<R: Read, W: Write>(input: &mut R, output: &mut W) -> io::Resul
     let mut bytes = [0u8; 72];
     let mut out = [0u8; 512];
     for _ in 0..u64::MAX {
-        if read_full(input, &mut bytes)? < 72 {
+        if streams::read_full(input, &mut bytes)? < 72 {
             break;
         }
-        respond_in(&bytes, &mut out, output)?;
+        respond(&bytes, &mut out, output)?;
     }
     Ok(())
 }

@@ -1,5 +1,5 @@
 -- Each public entry's contract allows one answer, and one run after it. Assumes nothing.
-use Rattle.words.proofs.Answers.{made_all}
+use Rattle.words.proofs.Answers.{said_all}
 use Rattle.words.proofs.Contracts.{OneAnswer, OneWrite, one_answer, one_pair, one_write}
 use Rattle.disp_targets.proofs.Determined.{word_all, written_all}
 use Rattle.retargets.proofs.retarget_word.Reads as retarget_word
@@ -8,7 +8,7 @@ use Rattle.retargets.proofs.retarget.Reads as retarget
 use Rattle.retargets.proofs.retarget_to.Reads as retarget_to
 
 pub retarget_word_determined : OneAnswer retarget_word.Post
-retarget_word_determined k a r s x y p q = made_all r s (one_answer p q)
+retarget_word_determined k a r s x y p q = said_all r s (one_answer p q)
 
 pub retarget_target_word_determined : OneAnswer retarget_target_word.Post
 retarget_target_word_determined k a r s x y p q = word_all r s (one_answer p q)

@@ -1,15 +1,7 @@
 -- What `encode_lmh` says. Assumes nothing.
 use Rattle.std.specs.Prelude.{cond, ℕ, ◌*◌, ◌/◌, ◌%◌, eqb, ltb}
 use Rattle.words.specs.Said.{Said, ok, no}
-use Rattle.words.specs.Answer.{number_of}
 use Rattle.simd.specs.declared.Lmh.{Lmh}
-use Rattle.simd.specs.declared.LmhAnswer.{LmhAnswer}
-use Rattle.simd.specs.declared.LmhAnswer.TheVariants as answer
-
--- the fields and the limit, or the number of a refusal
-abbrev pub lmh_said : LmhAnswer → Said Lmh
-lmh_said (answer.Lmh f) = ok f
-lmh_said (answer.NoLmh r) = no (number_of r)
 
 -- "order 7, 9: size 1, index to 7, h = index/4, lm = index mod 4, limit 15; size 2, index to 3, h = index/2, lm = 2·(index mod 2), limit 31"
 unfoldable pub lmh_of : ℕ → ℕ → Said Lmh

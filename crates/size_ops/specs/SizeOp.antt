@@ -2,16 +2,8 @@
 use Rattle.std.specs.Prelude.{cond, [], ◌∷◌, ℕ, ◌-◌, eqb, ltb, get_or}
 use Rattle.std.specs.Int.Bits.{bit_and}
 use Rattle.words.specs.Said.{Said, ok, no}
-use Rattle.words.specs.Answer.{number_of}
 use Rattle.words.specs.Bit.{bit_of}
-use Rattle.size_ops.specs.declared.SizeOpAnswer.{SizeOpAnswer}
-use Rattle.size_ops.specs.declared.SizeOpAnswer.TheVariants.{SizeOp, NoSizeOp}
 use Rattle.simd.specs.Kinds.{Vec8, Vec64, Vec128, none, B, D, within}
-
--- the size op, FF among them, or the number of a refusal
-abbrev pub size_op_said : SizeOpAnswer → Said ℕ
-size_op_said (SizeOp n) = ok n
-size_op_said (NoSizeOp r) = no (number_of r)
 
 -- "Table 0: Vec64 none and B 0, Vec128 none and B 1. The rest are FF"
 abbrev entry_of0 : ℕ → ℕ → ℕ

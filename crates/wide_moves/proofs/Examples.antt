@@ -5,22 +5,22 @@ use Prim.Native.Nat.{ℕ}
 use Rattle.arm.specs.MoveWide.{decode}
 use Rattle.arm.proofs.Worked.{Worked}
 use Rattle.words.specs.Said.{ok, no}
-use Rattle.wide_moves.specs.declared.WideAnswer.TheVariants.{Move, NoMove}
 use Rattle.wide_moves.specs.declared.WideMove.{WideMove}
 use Rattle.wide_moves.specs.Wide.{wide_of, wide_said}
+use Rattle.std.specs.Prelude.{None, Some}
 
 abbrev wide : (sf opc hw imm16 rd : ℕ) → WideMove
 wide sf opc hw imm16 rd = record { sf = sf; opc = opc; hw = hw; imm16 = imm16; rd = rd }
 
 pub read :
     Worked
-    ((wide_of (decode 0xD2824683), Move (wide 1 2 0 0x1234 3))  -- movz x3, #0x1234
-    ∷ (wide_of (decode 0x12BFFFC0), Move (wide 0 0 1 0xFFFE 0))  -- movn w0, #0xfffe, lsl #16
-    ∷ (wide_of (decode 0xF2E0003E), Move (wide 1 3 3 1 30))  -- movk x30, #1, lsl #48
-    ∷ (wide_of (decode 0xD280001F), NoMove)  -- movz xzr, #0
-    ∷ (wide_of (decode 0x52C00000), NoMove)  -- halfword 2 at size 32
-    ∷ (wide_of (decode 0xB2800000), NoMove)  -- opc 01
-    ∷ (wide_of (decode 0xD503201F), NoMove)  -- nop
+    ((wide_of (decode 0xD2824683), Some (wide 1 2 0 0x1234 3))  -- movz x3, #0x1234
+    ∷ (wide_of (decode 0x12BFFFC0), Some (wide 0 0 1 0xFFFE 0))  -- movn w0, #0xfffe, lsl #16
+    ∷ (wide_of (decode 0xF2E0003E), Some (wide 1 3 3 1 30))  -- movk x30, #1, lsl #48
+    ∷ (wide_of (decode 0xD280001F), None)  -- movz xzr, #0
+    ∷ (wide_of (decode 0x52C00000), None)  -- halfword 2 at size 32
+    ∷ (wide_of (decode 0xB2800000), None)  -- opc 01
+    ∷ (wide_of (decode 0xD503201F), None)  -- nop
     ∷ [])
 unfolding decode
 read = refl

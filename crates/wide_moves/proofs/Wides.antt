@@ -11,9 +11,9 @@ use lib.Dec.{eqb, leb, eqb-suc-zero}
 use Rattle.arm.specs.Bits.{bits}
 use Rattle.arm.specs.MoveWide.{Op, MOVN, MOVZ, MOVK, Wide, op_of, decode, Regs, write, run}
 use Rattle.arm.proofs.Wide.{left, ran_of}
-use Rattle.wide_moves.specs.declared.WideAnswer.TheVariants.{Move, NoMove}
 use Rattle.wide_moves.specs.declared.WideMove.{WideMove}
 use Rattle.wide_moves.specs.Wide.{opc_of, wide_of}
+use Rattle.std.specs.Prelude.{None, Some}
 
 -- ---- opc
 
@@ -42,25 +42,25 @@ pub record Passes (w : ℕ) : Type 0 where
   pub register : w % 32 ≡ 31 → ⊥
 
 module _ (w : ℕ) where
-  pub other_group : (bits 28 23 w ≡ 0b100101 → ⊥) → NoMove ≡ wide_of (decode w)
+  pub other_group : (bits 28 23 w ≡ 0b100101 → ⊥) → None ≡ wide_of (decode w)
   unfolding decode
   other_group h = simp (ne_eqb (bits 28 23 w) 0b100101 h)
 
-  pub past_size : 2 + 2 * bits 31 31 w ≤ bits 22 21 w → NoMove ≡ wide_of (decode w)
+  pub past_size : 2 + 2 * bits 31 31 w ≤ bits 22 21 w → None ≡ wide_of (decode w)
   unfolding decode
   past_size h =
       let s : bits 31 31 w ≡ 0 = omega arith in
       rw (s, le-leb 2 (bits 22 21 w) (omega arith)) (go (eqb (bits 28 23 w) 0b100101) _)
     where
-      go : (b : Bool) (x : Option Wide) → NoMove ≡ wide_of (cond (b && false) x none)
+      go : (b : Bool) (x : Option Wide) → None ≡ wide_of (cond (b && false) x none)
       go true x = refl
       go false x = refl
 
-  pub no_opc : bits 30 29 w ≡ 1 → NoMove ≡ wide_of (decode w)
+  pub no_opc : bits 30 29 w ≡ 1 → None ≡ wide_of (decode w)
   unfolding decode
   no_opc h = rw h (go (eqb (bits 28 23 w) 0b100101 && not (eqb (bits 31 31 w) 0 && leb 2 (bits 22 21 w))))
     where
-      go : (b : Bool) → NoMove ≡ wide_of (cond b none none)
+      go : (b : Bool) → None ≡ wide_of (cond b none none)
       go true = refl
       go false = refl
 
@@ -73,37 +73,37 @@ module _ (w : ℕ) where
       allocated zero m = rw (lt-leb 2 (bits 22 21 w) m)
       allocated (suc s) m = rw (eqb-suc-zero s)
 
-  pub read_31 : bits 28 23 w ≡ 0b100101 → bits 22 21 w < 2 + 2 * bits 31 31 w → (bits 30 29 w ≡ 1 → ⊥) → w % 32 ≡ 31 → NoMove ≡ wide_of (decode w)
+  pub read_31 : bits 28 23 w ≡ 0b100101 → bits 22 21 w < 2 + 2 * bits 31 31 w → (bits 30 29 w ≡ 1 → ⊥) → w % 32 ≡ 31 → None ≡ wide_of (decode w)
   read_31 g l n r =
       let k = known (bits 30 29 w) (omega arith) n in
       let d : bits 4 0 w ≡ 31 = omega arith in
       sym (rw (a_move g l k, d))
 
-  pub read_move : Passes w → Move (fields_of w) ≡ wide_of (decode w)
+  pub read_move : Passes w → Some (fields_of w) ≡ wide_of (decode w)
   read_move p =
       let k = known (bits 30 29 w) (omega arith) p.opc in
       let d : bits 4 0 w ≡ w % 32 = omega arith in
       sym (rw (a_move p.group p.size k, d, ne_eqb (w % 32) 31 p.register, k.back))
 
-pub wide_cases : (w : ℕ) → (NoMove ≡ wide_of (decode w)) ⊎ Passes w
+pub wide_cases : (w : ℕ) → (None ≡ wide_of (decode w)) ⊎ Passes w
 wide_cases w = go (eqb (bits 28 23 w) 0b100101) refl (leb (2 + 2 * bits 31 31 w) (bits 22 21 w)) refl (eqb (bits 30 29 w) 1) refl (eqb (w % 32) 31) refl
   where
     go : (a : Bool) → eqb (bits 28 23 w) 0b100101 ≡ a → (b : Bool) → leb (2 + 2 * bits 31 31 w) (bits 22 21 w) ≡ b
-        → (c : Bool) → eqb (bits 30 29 w) 1 ≡ c → (d : Bool) → eqb (w % 32) 31 ≡ d → (NoMove ≡ wide_of (decode w)) ⊎ Passes w
+        → (c : Bool) → eqb (bits 30 29 w) 1 ≡ c → (d : Bool) → eqb (w % 32) 31 ≡ d → (None ≡ wide_of (decode w)) ⊎ Passes w
     go false p b q c r d s = inl (other_group w (eqb-false _ _ p))
     go true p true q c r d s = inl (past_size w (leb-true _ _ q))
     go true p false q true r d s = inl (no_opc w (eqb-true _ _ r))
     go true p false q false r true s = inl (read_31 w (eqb-true _ _ p) (leb-false _ _ q) (eqb-false _ _ r) (eqb-true _ _ s))
     go true p false q false r false s = inr (record { group = eqb-true _ _ p; size = leb-false _ _ q; opc = eqb-false _ _ r; register = eqb-false _ _ s })
 
-not_move : {m : WideMove} → Move m ≡ NoMove → ⊥
+not_move : {m : WideMove} → Some m ≡ None → ⊥
 not_move e = let z : ◌≡◌ {A = ℕ} 0 1 = cc in omega arith
 
-pub moves_back : (w : ℕ) {m : WideMove} → Move m ≡ wide_of (decode w) → Passes w × (m ≡ fields_of w)
+pub moves_back : (w : ℕ) {m : WideMove} → Some m ≡ wide_of (decode w) → Passes w × (m ≡ fields_of w)
 moves_back w {m} e =
-    ⊎_elim (λ (n : NoMove ≡ wide_of (decode w)). absurd (not_move (e ∙ sym n))) (λ (p : Passes w). (p, same (e ∙ sym (read_move w p)))) (wide_cases w)
+    ⊎_elim (λ (n : None ≡ wide_of (decode w)). absurd (not_move (e ∙ sym n))) (λ (p : Passes w). (p, same (e ∙ sym (read_move w p)))) (wide_cases w)
   where
-    same : {n : WideMove} → Move m ≡ Move n → m ≡ n
+    same : {n : WideMove} → Some m ≡ Some n → m ≡ n
     same q = cc
 
 -- ---- what one word leaves

@@ -1,11 +1,9 @@
 -- A wide move by its fields: what is read from a word, and the word that is written from them. Assumes nothing.
-use Rattle.std.specs.Prelude.{cond, ◌||◌, List, [], ◌∷◌, ℕ, ◌+◌, ◌*◌, ◌^◌, eqb, leb, ltb}
+use Rattle.std.specs.Prelude.{cond, ◌||◌, List, [], ◌∷◌, ℕ, ◌+◌, ◌*◌, ◌^◌, eqb, leb, ltb, Some, None, Option as RustOption}
 use Rattle.std.proofs.Math.Option.{Option, none, some}
 use Rattle.arm.specs.MoveWide.{Op, MOVN, MOVZ, MOVK, Wide}
 use Rattle.words.specs.Said.{Said, ok, no}
 use Rattle.wide_moves.specs.declared.WideMove.{WideMove}
-use Rattle.wide_moves.specs.declared.WideAnswer.{WideAnswer}
-use Rattle.wide_moves.specs.declared.WideAnswer.TheVariants.{Move, NoMove}
 
 -- Arm's opc
 abbrev pub opc_of : Op → ℕ
@@ -14,9 +12,9 @@ opc_of MOVZ = 2
 opc_of MOVK = 3
 
 -- "the three wide moves"; "a wide move to register 31 is unknown"
-abbrev pub wide_of : Option Wide → WideAnswer
-wide_of none = NoMove
-wide_of (some m) = cond (eqb m.Rd 31) NoMove (Move (record { sf = m.sf; opc = opc_of m.op; hw = m.hw; imm16 = m.imm16; rd = m.Rd }))
+abbrev pub wide_of : Option Wide → RustOption WideMove
+wide_of none = None
+wide_of (some m) = cond (eqb m.Rd 31) None (Some (record { sf = m.sf; opc = opc_of m.op; hw = m.hw; imm16 = m.imm16; rd = m.Rd }))
 
 -- the fields where Arm has them
 abbrev pub composed : WideMove → ℕ

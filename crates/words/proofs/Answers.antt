@@ -1,14 +1,13 @@
 -- A refusal is known by its number, an answer by what it says, and words by their list. Assumes nothing.
 use Rattle.std.proofs.Common.{◌≡◌, ℕ, ◌<◌, ◌≤◌, List, [], ◌∷◌, length, get_or, sym, refl, ap, ◌∙◌, arith, lit≤}
+use Rattle.std.specs.Prelude.{zero, suc, Result, Ok, Err}
+use Rattle.std.specs.Result.{result_unwrap_or}
 use Rattle.words.specs.Said.{Said, ok, no}
-use Rattle.words.specs.Answer.{number_of, refusal_of, IsNumber, said, made}
+use Rattle.words.specs.Answer.{number_of, refusal_of, IsNumber, Numbers, said, said_as}
 use Rattle.words.specs.Listed.{list_of, words_of, listed, packed}
+use Rattle.words.specs.declared.NoRefusal.{NoRefusal}
 use Rattle.words.specs.declared.Refusal.{Refusal}
 use Rattle.words.specs.declared.Refusal.TheVariants.{Width, Register, NoField, Step, Range, Taken, Unknown, NoRoom, Index, ZeroBase, WrongForm, Label, Twice, Full, Unaligned, Again}
-use Rattle.words.specs.declared.Worded.{Worded}
-use Rattle.words.specs.declared.Worded.TheVariants.{Made, Not}
-use Rattle.words.specs.declared.Written.{Written}
-use Rattle.words.specs.declared.Written.TheVariants.{Done, No}
 
 -- ---- what says all of a thing is known by that
 
@@ -38,6 +37,39 @@ refusal_back Again = refl
 pub number_all : (r s : Refusal) → number_of r ≡ number_of s → r ≡ s
 number_all = all_said number_of refusal_of refusal_back
 
+-- a number that none has is 0 or past the last one, where the first refusal stands
+pub none_has : (n : ℕ) → (IsNumber n → ⊥) → refusal_of n ≡ Width
+none_has zero h = refl
+none_has (suc zero) h = absurd (h (Width, refl))
+none_has (suc (suc zero)) h = absurd (h (Register, refl))
+none_has (suc (suc (suc zero))) h = absurd (h (NoField, refl))
+none_has (suc (suc (suc (suc zero)))) h = absurd (h (Step, refl))
+none_has (suc (suc (suc (suc (suc zero))))) h = absurd (h (Range, refl))
+none_has (suc (suc (suc (suc (suc (suc zero)))))) h = absurd (h (Taken, refl))
+none_has (suc (suc (suc (suc (suc (suc (suc zero))))))) h = absurd (h (Unknown, refl))
+none_has (suc (suc (suc (suc (suc (suc (suc (suc zero)))))))) h = absurd (h (NoRoom, refl))
+none_has (suc (suc (suc (suc (suc (suc (suc (suc (suc zero))))))))) h = absurd (h (Index, refl))
+none_has (suc (suc (suc (suc (suc (suc (suc (suc (suc (suc zero)))))))))) h = absurd (h (ZeroBase, refl))
+none_has (suc (suc (suc (suc (suc (suc (suc (suc (suc (suc (suc zero))))))))))) h = absurd (h (WrongForm, refl))
+none_has (suc (suc (suc (suc (suc (suc (suc (suc (suc (suc (suc (suc zero)))))))))))) h = absurd (h (Label, refl))
+none_has (suc (suc (suc (suc (suc (suc (suc (suc (suc (suc (suc (suc (suc zero))))))))))))) h = absurd (h (Twice, refl))
+none_has (suc (suc (suc (suc (suc (suc (suc (suc (suc (suc (suc (suc (suc (suc zero)))))))))))))) h = absurd (h (Full, refl))
+none_has (suc (suc (suc (suc (suc (suc (suc (suc (suc (suc (suc (suc (suc (suc (suc zero))))))))))))))) h = absurd (h (Unaligned, refl))
+none_has (suc (suc (suc (suc (suc (suc (suc (suc (suc (suc (suc (suc (suc (suc (suc (suc zero)))))))))))))))) h = absurd (h (Again, refl))
+none_has (suc (suc (suc (suc (suc (suc (suc (suc (suc (suc (suc (suc (suc (suc (suc (suc (suc n))))))))))))))))) h = refl
+
+-- so what the conversion of a number gives, or else the first refusal, is the table's
+pub numbers_of : (n : ℕ) (x : Result Refusal NoRefusal) → Numbers n x → result_unwrap_or x Width ≡ refusal_of n
+numbers_of n (Ok r) h = sym (refusal_back r) ∙ ap refusal_of h
+numbers_of n (Err e) h = sym (none_has n h.1)
+
+-- and the conversion gives one thing
+pub numbers_one : (n : ℕ) (x y : Result Refusal NoRefusal) → Numbers n x → Numbers n y → x ≡ y
+numbers_one n (Ok r) (Ok s) p q = ap Ok (number_all r s (p ∙ sym q))
+numbers_one n (Ok r) (Err e) p q = absurd (q.1 (r, p))
+numbers_one n (Err e) (Ok s) p q = absurd (p.1 (s, q))
+numbers_one n (Err e) (Err f) p q = ap (λ (k : ℕ). Err (record { 0 = k })) (p.0 ∙ sym q.0)
+
 -- which is 1 at least, and fits five bits
 pub number_fits : {n : ℕ} → IsNumber n → (1 ≤ n) × (n < 32)
 number_fits (r, e) = let h = go r in (omega arith, omega arith)
@@ -60,29 +92,34 @@ number_fits (r, e) = let h = go r in (omega arith, omega arith)
     go Again = (lit≤ tt, lit≤ tt)
     go Unaligned = (lit≤ tt, lit≤ tt)
 
--- an answer of two cases: a value, and a refusal
-module _ {A X : Type 0} (value : A → X) (refusal : Refusal → X) where
-  abbrev pub answered : Said A → X
-  answered (ok a) = value a
-  answered (no n) = refusal (refusal_of n)
-
 -- a value is no refusal
 pub not_both : {A : Type 0} {a : A} {n : ℕ} → ◌≡◌ {A = Said A} (ok a) (no n) → ⊥
 not_both e = let z : ◌≡◌ {A = ℕ} 0 1 = cc in omega arith
 
-written_back : (r : Written) → answered Done No (said r) ≡ r
-written_back (Done p) = refl
-written_back (No r) = ap No (refusal_back r)
+-- an answer by what it says
+abbrev answered : {A : Type 0} → Said A → Result A Refusal
+answered (ok a) = Ok a
+answered (no n) = Err (refusal_of n)
 
-pub said_all : (r s : Written) → said r ≡ said s → r ≡ s
-said_all = all_said said (answered Done No) written_back
+said_back : {A : Type 0} (r : Result A Refusal) → answered (said r) ≡ r
+said_back (Ok a) = refl
+said_back (Err r) = ap Err (refusal_back r)
 
-made_back : (r : Worded) → answered Made Not (made r) ≡ r
-made_back (Made f) = refl
-made_back (Not r) = ap Not (refusal_back r)
+pub said_all : {A : Type 0} (r s : Result A Refusal) → said r ≡ said s → r ≡ s
+said_all = all_said said answered said_back
 
-pub made_all : (r s : Worded) → made r ≡ made s → r ≡ s
-made_all = all_said made (answered Made Not) made_back
+-- the same where a value is read in another form, from which it is had again
+module _ {A B : Type 0} (f : A → B) (g : B → A) (back : (a : A) → g (f a) ≡ a) where
+  abbrev answered_as : Said B → Result A Refusal
+  answered_as (ok b) = Ok (g b)
+  answered_as (no n) = Err (refusal_of n)
+
+  said_as_back : (r : Result A Refusal) → answered_as (said_as f r) ≡ r
+  said_as_back (Ok a) = ap Ok (back a)
+  said_as_back (Err r) = ap Err (refusal_back r)
+
+  pub said_as_all : (r s : Result A Refusal) → said_as f r ≡ said_as f s → r ≡ s
+  said_as_all = all_said (said_as f) answered_as said_as_back
 
 -- at most four words, by value and back
 pub list_back : (ws : List ℕ) → length ws ≤ 4 → list_of (words_of ws) ≡ ws

@@ -1,10 +1,11 @@
 -- What it is for a contract to allow one answer. A contract is a function's own `Reads.Post`: a claim of the lifetimes, the arguments, the answer
 -- and the arguments at exit. Assumes nothing.
 use Rattle.std.proofs.Common.{◌≡◌, ℕ, List, sym, ap, ◌∙◌}
+use Rattle.std.specs.Prelude.{Result}
 use Rattle.words.specs.Said.{Said}
 use Rattle.words.specs.Answer.{said}
 use Rattle.words.specs.declared.Place.{Place}
-use Rattle.words.specs.declared.Written.{Written}
+use Rattle.words.specs.declared.Refusal.{Refusal}
 use Rattle.words.proofs.Answers.{said_all}
 
 module _ {K : Type 0} {A R E : K → Type 0} where
@@ -29,5 +30,5 @@ one_pair {A} {B} {a} {c} {b} {d} p q =
     (ap (λ (k : A × B). k.0) e, ap (λ (k : A × B). k.1) e)
 
 -- a writer's answer, and the run after it
-pub one_write : (r s : Written) {l m : List ℕ} {z : Said Place × List ℕ} → (said r, l) ≡ z → (said s, m) ≡ z → (r ≡ s) × (l ≡ m)
+pub one_write : (r s : Result Place Refusal) {l m : List ℕ} {z : Said Place × List ℕ} → (said r, l) ≡ z → (said s, m) ≡ z → (r ≡ s) × (l ≡ m)
 one_write r s p q = let e = one_pair p q in (said_all r s e.0, e.1)

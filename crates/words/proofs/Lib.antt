@@ -6,5 +6,4 @@ pub mod Examples
 pub mod Fields
 pub mod Low
 pub mod Runs
-mod Signs
 pub mod Table

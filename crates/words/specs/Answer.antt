@@ -1,14 +1,9 @@
 -- The number of each refusal, and the numbers and values of each answer. Assumes nothing.
-use Rattle.std.specs.Prelude.{◌≡◌, ℕ, List, [], ◌∷◌, slice_index_or}
+use Rattle.std.specs.Prelude.{◌≡◌, ℕ, List, [], ◌∷◌, slice_index_or, Result, Ok, Err, MatchResult}
 use Rattle.words.specs.Said.{Said, ok, no}
 use Rattle.words.specs.declared.Refusal.{Refusal}
 use Rattle.words.specs.declared.Refusal.TheVariants.{Width, Register, NoField, Step, Range, Taken, Unknown, NoRoom, Index, ZeroBase, WrongForm, Label, Twice, Full, Unaligned, Again}
-use Rattle.words.specs.declared.Words.{Words}
-use Rattle.words.specs.declared.Place.{Place}
-use Rattle.words.specs.declared.Worded.{Worded}
-use Rattle.words.specs.declared.Worded.TheVariants.{Made, Not}
-use Rattle.words.specs.declared.Written.{Written}
-use Rattle.words.specs.declared.Written.TheVariants.{Done, No}
+use Rattle.words.specs.declared.NoRefusal.{NoRefusal}
 
 -- "Numbers given when a request is turned down", and from 11 on those of document 02
 abbrev pub number_of : Refusal → ℕ
@@ -41,12 +36,16 @@ refusal_of n = slice_index_or refusals n Width
 abbrev pub IsNumber : ℕ → Type 0
 IsNumber n = (r : Refusal) × (number_of r ≡ n)
 
--- a writer says the place after the last word
-abbrev pub said : Written → Said Place
-said (Done p) = ok p
-said (No r) = no (number_of r)
+-- the refusal that has a number, or the number, which none has
+abbrev pub Numbers : ℕ → Result Refusal NoRefusal → Type 0
+Numbers n x = MatchResult x (λ r. number_of r ≡ n) (λ e. (e.0 ≡ n) × (IsNumber n → ⊥))
 
--- words by value
-abbrev pub made : Worded → Said Words
-made (Made w) = ok w
-made (Not r) = no (number_of r)
+-- an answer says its value, or its refusal's number
+abbrev pub said : {A : Type 0} → Result A Refusal → Said A
+said (Ok a) = ok a
+said (Err r) = no (number_of r)
+
+-- the same of a value as something is to be read in it
+abbrev pub said_as : {A B : Type 0} → (A → B) → Result A Refusal → Said B
+said_as f (Ok a) = ok (f a)
+said_as f (Err r) = no (number_of r)

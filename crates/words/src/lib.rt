@@ -6,10 +6,13 @@ ghost use Rattle.std.specs.Prelude.{◌≡◌, ◌%◌, ◌^◌, min, [], ◌∷
 ghost use Rattle.std.specs.Int.{w64};
 ghost use Rattle.std.proofs.Common.{to_z, of_z};
 ghost use Rattle.arm.specs.Bits.{Ones};
-ghost use Rattle.words.specs.Answer.{number_of, refusal_of};
+ghost use Rattle.words.specs.Answer.{number_of, refusal_of, Numbers};
 ghost use Rattle.words.specs.Bit.{bit_of};
 ghost use Rattle.words.specs.Listed.{words_of};
 ghost use Rattle.words.specs.Place.{address_of};
+
+use std::error::Error;
+use std::fmt;
 
 // A place in a run of words, counted in words.
 #[derive(Clone, Copy)]
@@ -34,26 +37,30 @@ pub struct Place {
 #[derive(Clone, Copy)]
 pub struct Opc(pub u32);
 
-// Why a request was turned down; `number` gives the number of document 01 or 02.
-#[derive(Clone, Copy)]
+// Why a request was turned down, by its number in document 01 or 02.
+#[derive(Clone, Copy, Debug, PartialEq, Eq)]
 pub enum Refusal {
-    Width,
-    Register,
-    NoField,
-    Step,
-    Range,
-    Taken,
-    Unknown,
-    NoRoom,
-    Index,
-    ZeroBase,
-    WrongForm,
-    Label,
-    Twice,
-    Full,
-    Unaligned,
-    Again,
+    Width = 1,
+    Register = 2,
+    NoField = 3,
+    Step = 4,
+    Range = 5,
+    Taken = 6,
+    Unknown = 7,
+    NoRoom = 8,
+    Index = 9,
+    ZeroBase = 10,
+    WrongForm = 11,
+    Label = 12,
+    Twice = 13,
+    Full = 14,
+    Unaligned = 15,
+    Again = 16,
 }
+
+// A number that no refusal has.
+#[derive(Clone, Copy, Debug, PartialEq, Eq)]
+pub struct NoRefusal(pub u32);
 
 // Up to four words: a, b, c, d, as many as the count says.
 #[derive(Clone, Copy)]
@@ -65,70 +72,53 @@ pub struct Words {
     pub d: u32,
 }
 
-// Words by value, for a writer.
-#[derive(Clone, Copy)]
-pub enum Worded {
-    Made(Words),
-    Not(Refusal),
-}
-
-// What a writer answers: the place just past the last word written.
-#[derive(Clone, Copy)]
-pub enum Written {
-    Done(Place),
-    No(Refusal),
-}
-
 pub fn number(r: Refusal) -> u32
     ensures { result ≡ number_of r }
 {
-    match r {
-        Refusal::Width => 1,
-        Refusal::Register => 2,
-        Refusal::NoField => 3,
-        Refusal::Step => 4,
-        Refusal::Range => 5,
-        Refusal::Taken => 6,
-        Refusal::Unknown => 7,
-        Refusal::NoRoom => 8,
-        Refusal::Index => 9,
-        Refusal::ZeroBase => 10,
-        Refusal::WrongForm => 11,
-        Refusal::Label => 12,
-        Refusal::Twice => 13,
-        Refusal::Full => 14,
-        Refusal::Unaligned => 15,
-        Refusal::Again => 16,
+    r as u32
+}
+
+impl TryFrom<u32> for Refusal {
+    type Error = NoRefusal;
+
+    ghost try_from_gives = { Numbers };
+
+    fn try_from(n: u32) -> Result<Self, NoRefusal> {
+        match n {
+            1 => Ok(Refusal::Width),
+            2 => Ok(Refusal::Register),
+            3 => Ok(Refusal::NoField),
+            4 => Ok(Refusal::Step),
+            5 => Ok(Refusal::Range),
+            6 => Ok(Refusal::Taken),
+            7 => Ok(Refusal::Unknown),
+            8 => Ok(Refusal::NoRoom),
+            9 => Ok(Refusal::Index),
+            10 => Ok(Refusal::ZeroBase),
+            11 => Ok(Refusal::WrongForm),
+            12 => Ok(Refusal::Label),
+            13 => Ok(Refusal::Twice),
+            14 => Ok(Refusal::Full),
+            15 => Ok(Refusal::Unaligned),
+            16 => Ok(Refusal::Again),
+            _ => Err(NoRefusal(n)),
+        }
     }
 }
 
-// The refusals by their numbers; 0 is none's.
-const BY_NUMBER: [Refusal; 17] = [
-    Refusal::Width,
-    Refusal::Width,
-    Refusal::Register,
-    Refusal::NoField,
-    Refusal::Step,
-    Refusal::Range,
-    Refusal::Taken,
-    Refusal::Unknown,
-    Refusal::NoRoom,
-    Refusal::Index,
-    Refusal::ZeroBase,
-    Refusal::WrongForm,
-    Refusal::Label,
-    Refusal::Twice,
-    Refusal::Full,
-    Refusal::Unaligned,
-    Refusal::Again,
-];
+impl fmt::Display for Refusal {
+    fn fmt<W: fmt::Write>(&self, f: &mut fmt::Formatter<W>) -> fmt::Result {
+        write!(f, "refused {}", number(*self))
+    }
+}
+
+impl Error for Refusal {}
 
 // The refusal that has a number; the first one where none has it.
 pub fn numbered(n: u32) -> Refusal
     ensures { result ≡ refusal_of n }
 {
-    let i = n as usize;
-    if i < 17 { BY_NUMBER[i] } else { Refusal::Width }
+    Refusal::try_from(n).unwrap_or(Refusal::Width)
 }
 
 // The address of the word at a place. The sum wraps, and of the position only the low 62 bits count: four times the rest is whole turns.
@@ -136,7 +126,7 @@ pub fn address_of(at: Place) -> Address
     ensures { result ≡ record { 0 = address_of at } }
 {
     let bytes = at.position.0 as u64 % 0x4000_0000_0000_0000 * 4;
-    Address(std::num::wrapping_add_u64(at.base.0, bytes))
+    Address(at.base.0.wrapping_add(bytes))
 }
 
 // Up to three numbers by value, of which `count` are used.
@@ -196,7 +186,7 @@ pub fn bit_test(value: u32, n: u32) -> bool
 pub fn least(a: usize, b: usize) -> usize
     ensures { result ≡ min a b }
 {
-    if a < b { a } else { b }
+    a.min(b)
 }
 
 // n ones from bit 0 on, and no more than 64.
@@ -220,20 +210,12 @@ pub fn low_bits(x: u64, n: u32) -> u64
 pub fn signed_of(x: u64) -> i64
     ensures { result ≡ to_z w64 x }
 {
-    if x < 0x8000_0000_0000_0000 {
-        x as i64
-    } else {
-        !((u64::MAX - x) as i64)
-    }
+    x.cast_signed()
 }
 
 // The number modulo 2^64 of a signed one.
 pub fn bits_of(d: i64) -> u64
     ensures { result ≡ of_z w64 d }
 {
-    if d < 0 {
-        u64::MAX - ((!d) as u64)
-    } else {
-        d as u64
-    }
+    d.cast_unsigned()
 }

@@ -1,3 +1,4 @@
 -- What writing words says and leaves, and when.
 pub mod Put
+pub mod Units
 pub mod Says

@@ -5,13 +5,13 @@ use Rattle.archive_lines.proofs.put_constant.Goals as goal
 
 pub returns-then-n-c : goal.returns-then-n-c
 returns-then-n-c c =
-    rw (← c.size_of.ensures, ← c.fewest-n.ensures, lt-ltb _ _ c.if-n-c.true)
+    rw (← c.fewest-n.ensures, ← c.size_of.ensures, ← c.from.ensures, lt-ltb _ _ c.if-n-c.true)
     (then _ _ _ c.put_field-p.ensures
     (then _ _ _ c.put_field-q.ensures
     (then _ _ _ c.put_value-s.ensures
     (then _ _ _ c.put_field-t.ensures c.put_field.ensures))))
 
-pub returns : goal.returns
-returns c =
-    rw (← c.size_of.ensures, ← c.fewest-n.ensures, le-ltb _ _ c.if-n-c.false)
+pub returns-else-n-c : goal.returns-else-n-c
+returns-else-n-c c =
+    rw (← c.fewest-n.ensures, ← c.size_of.ensures, ← c.from.ensures, le-ltb _ _ c.if-n-c.false)
     (then _ _ _ c.put_field-p.ensures (then _ _ _ c.put_field-q.ensures (then _ _ _ c.put_value-s.ensures c.put_field-t.ensures)))

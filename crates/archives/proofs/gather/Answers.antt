@@ -1,24 +1,21 @@
 -- Goals of `archives::gather`. Assumes nothing.
-use Rattle.std.proofs.Common.{◌≡◌, ℕ, ◌/◌, List, length, take, set, refl, ap, ◌∙◌, add-one, arith, length-drop, length-set, length-take}
+use Rattle.std.proofs.Common.{◌≡◌, ℕ, ◌/◌, ◌<◌, List, length, take, set, ap, sym, ◌∙◌, add-one, arith, length-set}
 use Rattle.archives.proofs.Gathered.{one_word, all_words}
 use Rattle.archives.proofs.gather.Goals as goal
 
-pub loop-n-init : goal.loop-n-init
-loop-n-init c = (omega arith, omega arith, refl, refl)
-
-pub word-requires : goal.word-requires
-word-requires c = simp (length-take, length-drop) (omega arith)
-
-pub loop-n-preserved : goal.loop-n-preserved
-loop-n-preserved c =
+pub loop-i-preserved : goal.loop-i-preserved
+loop-i-preserved c =
     let a = c.args in
-    let h = c.loop-n in
-    let e = ap (λ (l : List ℕ). set l h.n c.word.result) h.invariant.3 ∙ one_word a.words.now a.bytes.now h.n c.loop-n-test.true c.word.ensures in
-    (omega arith, omega arith, simp length-set (omega arith), rw (add-one h.n) e)
+    let h = c.loop-i in
+    let more : h.i < length a.bytes.now / 4 = omega (arith, c.as_chunks.ensures.front_len, c.loop-i-test.true) in
+    let e = ap (λ (l : List ℕ). set l h.i c.from_le_bytes.result) h.invariant.1 ∙ one_word a.words.now a.bytes.now h.i c.as_chunks.ensures.front more c.from_le_bytes.ensures in
+    (simp length-set h.invariant.0, rw (add-one h.i) e)
 
-pub returns : goal.returns
-returns c =
-    let h = c.loop-n in
+pub returns-clause-words_after : goal.returns-clause-words_after
+returns-clause-words_after c =
     let a = c.args in
-    let n : h.n ≡ length a.bytes.now / 4 = omega arith in
-    record { value = n; words_after = ap (take h.n) h.invariant.3 ∙ all_words a.words.now a.bytes.now h.n n (omega arith) }
+    let h = c.loop-i in
+    let count = c.as_chunks.ensures.front_len in
+    let n : h.i ≡ length a.bytes.now / 4 = omega (arith, count, c.loop-i-test.false, h.auto.i-end) in
+    let e = ap (take h.i) h.invariant.1 ∙ all_words a.words.now a.bytes.now h.i n (omega (arith, n, c.requires)) in
+    rw (n ∙ sym count) at e

@@ -1,11 +1,16 @@
--- What the loops of `archives::pass` keep. Assumes nothing.
-use Rattle.std.proofs.Common.{◌≡◌, ◌+◌, ◌-◌, ◌*◌, ◌≤◌, length}
+-- What the loop of `archives::pass` keeps. Assumes nothing.
+use Rattle.std.proofs.Common.{◌≡◌, ◌+◌, ◌-◌, ◌*◌, ◌≤◌, false, length}
 use Rattle.archive_pieces.proofs.Forward.{held}
-use Rattle.archives.proofs.Again.{going, Sofar}
+use Rattle.archives.proofs.Again.{Sofar}
 use Rattle.archives.proofs.pass.Given as goal
 
-abbrev pub invariant-loop-ended : goal.invariant-loop-ended
-invariant-loop-ended g l = (320 ≤ length l.out) × (length l.out ≡ length l.initial.out) × Sofar l.words l.at l.fn.carried l.ended l.i l.position l.kept
+abbrev pub invariant-loop-next : goal.invariant-loop-next
+invariant-loop-next g l =
+    record {
+      room : 320 ≤ length l.out;
+      same : length l.out ≡ length l.initial.out;
+      sofar : Sofar l.words l.fn.from.at l.fn.from.carried false l.i l.next.at l.next.carried;
+    }
 
-abbrev pub decreases-loop-ended : goal.decreases-loop-ended
-decreases-loop-ended g l = 2 * (length l.words - l.i) + held l.kept + going l.ended
+abbrev pub decreases-loop-next : goal.decreases-loop-next
+decreases-loop-next g l = 2 * (length l.words - l.i) + held l.next.carried

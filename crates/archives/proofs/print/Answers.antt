@@ -1,5 +1,5 @@
 -- Goals of `archives::print`. Assumes nothing.
-use Rattle.std.proofs.Common.{arith, rules}
+use Rattle.std.proofs.Common.{arith, rules, refl}
 use Rattle.arm.proofs.Tests.{never}
 use Rattle.archives.proofs.Again.{begun, again, ended, taken, fewer, steps_within}
 use Rattle.archives.proofs.print.Goals as goal
@@ -29,14 +29,14 @@ loop-out-smaller c =
 pub loop-out-preserved : goal.loop-out-preserved
 loop-out-preserved c =
     let loop = c.loop-out in
-    again _ _ _ _ loop.invariant (omega (arith, c.loop-out-test.true, loop.invariant.room, loop.invariant.same)) c.read_on.ensures c.in-Tell.is c.line-p.ensures c.wrapping_add_u64-position.ensures.value
+    again _ _ _ _ loop.invariant (omega (arith, c.loop-out-test.true, loop.invariant.room, loop.invariant.same)) c.read_on.ensures c.in-Tell.is c.line-p.ensures refl
 
 pub overflow_sub-left : goal.overflow_sub-left
 overflow_sub-left c = steps_within c.loop-out.invariant.steps
 
 pub returns-in-Carry : goal.returns-in-Carry
 returns-in-Carry c =
-    record { upto = ended _ _ _ _ c.loop-out.invariant c.read_on.ensures c.in-Carry.is c.wrapping_add_u64.ensures.value; out_len_bound = λ e. never e }
+    record { upto = ended _ _ _ _ c.loop-out.invariant c.read_on.ensures c.in-Carry.is refl; out_len_bound = λ e. never e }
 
 pub returns : goal.returns
 returns c =

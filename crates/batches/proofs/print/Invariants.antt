@@ -1,10 +1,12 @@
-use Rattle.std.proofs.Common.{◌-◌, false, length}
+-- The lines of the records before stand in the run.
+use Rattle.std.proofs.Common.{◌≡◌, ◌*◌, false}
 use Rattle.batches.specs.Printed.{Upto}
 use Rattle.batches.proofs.print.Given as goal
 
--- the lines of the records before stand in the run
-abbrev pub invariant-loop-i : goal.invariant-loop-i
-invariant-loop-i l = Upto l.offset l.bytes l.initial.out l.i l.at l.next false l.out
-
-abbrev pub decreases-loop-i : goal.decreases-loop-i
-decreases-loop-i l = length l.bytes - l.i
+abbrev pub invariant-loop-record : goal.invariant-loop-record
+invariant-loop-record l =
+    record {
+      upto : Upto l.offset l.bytes l.initial.out l.p.taken l.p.written l.p.next false l.out;
+      taken : l.p.taken ≡ 12 * l.record-index;
+      goes : l.p.ended ≡ false;
+    }

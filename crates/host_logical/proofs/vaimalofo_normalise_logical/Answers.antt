@@ -6,8 +6,8 @@ use Rattle.arm.specs.BitMasks.{esize}
 use Rattle.logical.proofs.Laws.{length_low}
 use Rattle.host_logical.proofs.vaimalofo_normalise_logical.Goals as goal
 
-pub spelled-requires : goal.spelled-requires
-spelled-requires c =
+pub map_or_else-requires-clause-f_callable : goal.map_or_else-requires-clause-f_callable
+map_or_else-requires-clause-f_callable c f e =
     let a = c.args in
-    let h = c.in-Fields.ensures in
+    let h = rw e at c.normalise.ensures in
     rw h.2 (h.1.n_bits, h.1.s_bits, omega (arith, mod-le a.r (esize a.n a.s), h.1.r_bits), length_low h.0 h.1 refl)

@@ -1,11 +1,11 @@
 -- A text where there is room for it, and where there is none. Assumes nothing.
-use Rattle.std.proofs.Common.{sym}
+use Rattle.std.proofs.Common.{sym, rules, length}
 use Rattle.lines.specs.Parts.{text}
 use Rattle.lines.proofs.Parts.{enough, too_few, part_full, part_is}
 use Rattle.lines.proofs.text.Goals as goal
 
-pub returns-then-has_room : goal.returns-then-has_room
-returns-then-has_room c = part_is _ _ (text _) (enough c.has_room.ensures c.if-has_room.true) c.put_any.ensures
+pub returns-then-not-has_room : goal.returns-then-not-has_room
+returns-then-not-has_room c = sym (part_full _ _ (text _) (too_few c.has_room.ensures c.if-not-has_room.true))
 
 pub returns : goal.returns
-returns c = sym (part_full _ _ (text _) (too_few c.has_room.ensures c.if-has_room.false))
+returns c = part_is _ _ (text _) {m = length c.args.t.now} (enough c.has_room.ensures c.if-not-has_room.false) (search rules)

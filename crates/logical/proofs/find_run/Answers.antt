@@ -7,8 +7,11 @@ use native.Mathlib.Omega.{arith}
 use lib.Count.{count_leading_zeros, count_trailing_zeros}
 use lib.Pow.{pow_mono}
 use borrow.Author.Rules.{rules}
+use Rattle.std.specs.Int.{rotate_right, w64}
+use Rattle.arm.specs.Bits.{ROR}
 use Rattle.arm.specs.Elements.{Element}
 use Rattle.arm.proofs.Lengths.{at_element}
+use Rattle.logical.proofs.Rotated.{rotated}
 use Rattle.logical.proofs.Search.{Seen, zero_none, a_run, no_run, e_low, e_pos}
 use Rattle.logical.proofs.find_run.Goals as goal
 
@@ -43,20 +46,20 @@ seen x p l small some even place run = record {
 pub returns-then-x-eq0 : goal.returns-then-x-eq0
 returns-then-x-eq0 c = zero_none (inr refl) c.if-x-eq0.true
 
-pub turned-requires : goal.turned-requires
-turned-requires c =
-    let t = seen _ _ _ c.ranges.x.fits c.if-x-eq0.false c.requires c.zeros-p.ensures.0 c.zeros-l.ensures.0 in
-    (e_pos t, e_low t)
+-- what `rotate_right` gives, as Arm turns it
+turned : {x p l y : ℕ} → Seen 64 x p l (p + l + count_leading_zeros 64 x) → y ≡ rotate_right w64 x (p + l + count_leading_zeros 64 x)
+    → y ≡ ROR 64 x (p + l + count_leading_zeros 64 x)
+turned {x} t is = is ∙ rotated x _ t.small (e_pos t) (e_low t)
 
-pub returns-then-turned-x : goal.returns-then-turned-x
-returns-then-turned-x c =
-    no_run (seen _ _ _ c.ranges.x.fits c.if-x-eq0.false c.requires c.zeros-p.ensures.0 c.zeros-l.ensures.0)
-    (λ el same. c.if-turned-x.true (c.turned.ensures ∙ same))
+pub returns-then-rotate_right-x : goal.returns-then-rotate_right-x
+returns-then-rotate_right-x c =
+    let t = seen _ _ _ c.ranges.x.fits c.if-x-eq0.false c.requires c.zeros-p.ensures.0 c.zeros-l.ensures.0 in
+    no_run t (λ el same. c.if-rotate_right-x.true (turned t c.rotate_right.ensures ∙ same))
 
 pub returns-in-2 : goal.returns-in-2
 returns-in-2 c =
-    a_run (seen _ _ _ c.ranges.x.fits c.if-x-eq0.false c.requires c.zeros-p.ensures.0 c.zeros-l.ensures.0)
-    (element c.in-2.is) (sym c.turned.ensures ∙ c.if-turned-x.false)
+    let t = seen _ _ _ c.ranges.x.fits c.if-x-eq0.false c.requires c.zeros-p.ensures.0 c.zeros-l.ensures.0 in
+    a_run t (element c.in-2.is) (sym (turned t c.rotate_right.ensures) ∙ c.if-rotate_right-x.false)
 
 pub returns-in_default : goal.returns-in_default
 returns-in_default c =

@@ -1,54 +1,58 @@
 -- The answers of `logical_words::logical_word`. Assumes nothing.
-use mathlib.Core.Logic.{inl, inr}
-use borrow.Author.Rules.{rules}
-use Rattle.arm.specs.BitMasks.{IsWidth}
+use mathlib.Core.Logic.{inl, inr, ⊎_elim}
+use Rattle.std.proofs.lemmas.Result.{err_from_is_err_and}
 use Rattle.words.specs.Said.{ok, no}
 use Rattle.logical.proofs.Model.{encode_of, encode_right}
-use Rattle.logical_words.proofs.Word.{word_operation, word_width, word_register, word_filled}
+use Rattle.logical_words.proofs.Word.{known, at_width, word_operation, word_width, word_register, word_filled}
 use Rattle.logical_words.proofs.logical_word.Goals as goal
 
-pub returns-then-operation-gt3 : goal.returns-then-operation-gt3
-returns-then-operation-gt3 c =
+pub returns-in_err-operation : goal.returns-in_err-operation
+returns-in_err-operation c =
     let a = c.args in
     let e = encode_of a.width a.imm in
-    (e, encode_right a.width a.imm, rw (word_operation a.operation a.width a.rn a.rd e c.if-operation-gt3.true))
+    let p = err_from_is_err_and c.from_residual.result c.from_residual.ensures.1 in
+    let h = c.in_err-operation.ensures in
+    (e, encode_right a.width a.imm, rw (p.1, p.2, h.0, word_operation a.operation a.width a.rn a.rd e h.1))
 
-pub returns-in_default : goal.returns-in_default
-returns-in_default c =
+pub returns-in_err-w : goal.returns-in_err-w
+returns-in_err-w c =
     let a = c.args in
     let e = encode_of a.width a.imm in
-    let none : IsWidth a.width → ⊥ = search rules in
-    (e, encode_right a.width a.imm, rw (word_width a.operation a.width a.rn a.rd e c.if-operation-gt3.false none))
+    let p = err_from_is_err_and c.from_residual-in_err-w.result c.from_residual-in_err-w.ensures.1 in
+    let o = known c.in_ok-operation.operation c.in_ok-operation.ensures in
+    let h = c.in_err-w.ensures in
+    (e, encode_right a.width a.imm, rw (p.1, p.2, h.0, word_width a.operation a.width a.rn a.rd e o h.1))
 
 pub returns-then-rn-gt31 : goal.returns-then-rn-gt31
 returns-then-rn-gt31 c =
     let a = c.args in
     let e = encode_of a.width a.imm in
-    (e, encode_right a.width a.imm, rw (word_register a.operation a.width a.rn a.rd e c.if-operation-gt3.false c.in-32.is (inl c.if-rn-gt31.true)))
+    let o = known c.in_ok-operation.operation c.in_ok-operation.ensures in
+    let w = at_width c.in_ok-w.w c.in_ok-w.ensures in
+    let past = ⊎_elim inl (λ q. inr q.1) c.then-rn-gt31.either in
+    (e, encode_right a.width a.imm, rw (word_register a.operation a.width a.rn a.rd e o w past))
 
-pub returns-then-rd-gt31 : goal.returns-then-rd-gt31
-returns-then-rd-gt31 c =
+pub returns-in_err-f : goal.returns-in_err-f
+returns-in_err-f c =
     let a = c.args in
-    let e = encode_of a.width a.imm in
-    (e, encode_right a.width a.imm, rw (word_register a.operation a.width a.rn a.rd e c.if-operation-gt3.false c.in-32.is (inr c.if-rd-gt31.true)))
+    let p = err_from_is_err_and c.from_residual-in_err-f.result c.from_residual-in_err-f.ensures.1 in
+    let o = known c.in_ok-operation.operation c.in_ok-operation.ensures in
+    let w = at_width c.in_ok-w.w c.in_ok-w.ensures in
+    (no _, c.in_err-f.ensures, rw (p.1, p.2, word_filled a.operation a.width a.rn a.rd (no _) o w c.if-rn-gt31.false c.if-rd-gt31.false))
 
-pub returns-in-Fields : goal.returns-in-Fields
-returns-in-Fields c =
-    let a = c.args in (
+pub returns : goal.returns
+returns c =
+    let a = c.args in
+    let o = known c.in_ok-operation.operation c.in_ok-operation.ensures in
+    let w = at_width c.in_ok-w.w c.in_ok-w.ensures in (
       ok _,
-      c.in-Fields.ensures,
+      c.in_ok-f.ensures,
       rw (
-        word_filled a.operation a.width a.rn a.rd (ok _) c.if-operation-gt3.false c.in-32.is c.if-rn-gt31.false c.if-rd-gt31.false,
+        word_filled a.operation a.width a.rn a.rd (ok _) o w c.if-rn-gt31.false c.if-rd-gt31.false,
         c.one.ensures,
         c.placed-word.ensures,
         c.base.ensures.0,
+        c.in_ok-operation.ensures,
+        c.in_ok-w.ensures,
       ),
-    )
-
-pub returns-in-NoFields : goal.returns-in-NoFields
-returns-in-NoFields c =
-    let a = c.args in (
-      no _,
-      c.in-NoFields.ensures,
-      rw (word_filled a.operation a.width a.rn a.rd (no _) c.if-operation-gt3.false c.in-32.is c.if-rn-gt31.false c.if-rd-gt31.false),
     )

@@ -11,4 +11,4 @@ unfolding long filler
 returns c =
     let v = c.args.imm in
     c.lead.ensures
-    ∙ long_by c.args.rd c.requires v (leb (count 0xFFFF v) (count 0 v)) c.filler-f.ensures.is c.base.ensures.is c.first.ensures c.rest-q.ensures
+    ∙ long_by c.args.rd.number c.args.rd.general v (leb (count 0xFFFF v) (count 0 v)) c.filler-f.ensures.is c.base.ensures.is c.first.ensures c.rest-q.ensures

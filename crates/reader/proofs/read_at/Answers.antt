@@ -1,32 +1,19 @@
 -- Goals of `reader::read_at`. Assumes nothing.
-use mathlib.Core.Path.{refl, ◌∙◌}
+use mathlib.Core.Path.{sym, ap, ◌∙◌}
 use native.Mathlib.Omega.{arith}
-use Rattle.reader.proofs.Finds.{past, end, first, lone, logical, displaced, unknown}
+use Rattle.std.specs.Prelude.{Ok}
+use Rattle.reader.proofs.Finds.{first, lone, other}
+use Rattle.reader.proofs.read_at.Goals.{in_default-via-in-Wide+else-m-ne3, in_default-via-in_default}
 use Rattle.reader.proofs.read_at.Goals as goal
 
-pub returns-then-words-i : goal.returns-then-words-i
-returns-then-words-i c = past _ _ c.if-words-i.true
+pub returns-in-Wide : goal.returns-in-Wide
+returns-in-Wide c = ap Ok c.join.ensures ∙ first _ _ (omega arith) c.in-Wide.ensures c.if-m-ne3.true
 
-pub returns-then-words-i-2 : goal.returns-then-words-i-2
-returns-then-words-i-2 c = end _ _ c.if-words-i-2.true
-
-pub join-requires : goal.join-requires
-join-requires c =
-    record { inside = omega arith; read = c.in-Wide.ensures; first = c.if-m-eq3.false }
-
-pub returns-then-m-eq3 : goal.returns-then-m-eq3
-returns-then-m-eq3 c =
-    c.single.ensures ∙ lone _ _ (omega arith) c.in-Wide.ensures refl c.if-m-eq3.true
-
-pub returns-else-m-eq3 : goal.returns-else-m-eq3
-returns-else-m-eq3 c =
-    c.join.ensures ∙ first _ _ (omega arith) c.in-Wide.ensures c.if-m-eq3.false
-
-pub returns-in-Logical : goal.returns-in-Logical
-returns-in-Logical c = c.single-in-Logical.ensures ∙ logical _ _ (omega arith) c.read_word-item.ensures c.in-Logical.is
-
-pub returns-in-Displaced : goal.returns-in-Displaced
-returns-in-Displaced c = c.single-in-Displaced.ensures ∙ displaced _ _ (omega arith) c.read_word-item.ensures c.in-Displaced.is
-
-pub returns-in-Unknown : goal.returns-in-Unknown
-returns-in-Unknown c = c.single-in-Unknown.ensures ∙ unknown _ _ (omega arith) c.read_word-item.ensures c.in-Unknown.is
+pub returns-in_default : goal.returns-in_default
+returns-in_default c =
+    elim c.in_default.branch [
+      | in_default-via-in-Wide+else-m-ne3 w ↦
+          rw c.from_to.ensures (lone _ _ (omega arith) (w.item-is ∙ w.in-Wide.ensures) w.item-is w.if-m-ne3.false)
+      | in_default-via-in_default w ↦
+          rw c.from_to.ensures (other _ _ (omega arith) _ (w.item-is ∙ c.read_word-item.ensures) (λ m e. w.in_default.not-Wide m (sym w.item-is ∙ e)))
+    ]

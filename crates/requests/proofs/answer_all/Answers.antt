@@ -6,11 +6,11 @@ use Rattle.requests.proofs.answer_all.Goals as goal
 pub returns-in_err-read_full-clause-input : goal.returns-in_err-read_full-clause-input
 returns-in_err-read_full-clause-input g c = takes-more _ _ _ c.loop.invariant.front c.read_full.ensures.front
 
-pub returns-in_err-respond_in-clause-input : goal.returns-in_err-respond_in-clause-input
-returns-in_err-respond_in-clause-input g c = takes-more _ _ _ c.loop.invariant.front c.read_full.ensures.front
+pub returns-in_err-respond-clause-input : goal.returns-in_err-respond-clause-input
+returns-in_err-respond-clause-input g c = takes-more _ _ _ c.loop.invariant.front c.read_full.ensures.front
 
-pub returns-in_err-respond_in-clause-output : goal.returns-in_err-respond_in-clause-output
-returns-in_err-respond_in-clause-output g c = adds-more _ _ _ c.loop.invariant.behind c.respond_in.ensures
+pub returns-in_err-respond-clause-output : goal.returns-in_err-respond-clause-output
+returns-in_err-respond-clause-output g c = adds-more _ _ _ c.loop.invariant.behind c.respond.ensures
 
 pub returns-then-branch-lt72-clause-input : goal.returns-then-branch-lt72-clause-input
 returns-then-branch-lt72-clause-input g c = takes-more _ _ _ c.loop.invariant.front c.read_full.ensures.front
@@ -20,5 +20,5 @@ loop-preserved g c =
     record {
       whole = search rules;
       front = takes-more _ _ _ c.loop.invariant.front c.read_full.ensures.front;
-      behind = adds-more _ _ _ c.loop.invariant.behind c.respond_in.ensures;
+      behind = adds-more _ _ _ c.loop.invariant.behind c.respond.ensures;
     }

@@ -1,6 +1,7 @@
 -- The array that is read into keeps its length.
 use Rattle.std.proofs.Common.{◌≡◌, length}
-use Rattle.requests.specs.Streams.{OnlyAdds, OnlyTakes}
+use Rattle.streams.specs.Streams.{OnlyTakes}
+use Rattle.requests.specs.Streams.{OnlyAdds}
 use Rattle.requests.proofs.answer_all.Given as goal
 
 abbrev pub invariant-loop : goal.invariant-loop

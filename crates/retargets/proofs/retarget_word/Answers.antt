@@ -1,27 +1,22 @@
--- What is left of `retargets::retarget_word`. Assumes nothing.
-use Rattle.std.proofs.Common.{ℕ, sym, ap, ◌∙◌}
+-- What is left of `retargets::retarget_word`: the distance over the base that is made of the word there, or no base. Assumes nothing.
+use Rattle.std.proofs.Common.{ap, ◌∙◌}
+use Rattle.std.proofs.lemmas.Result.{err_from_is_err_and}
+use Rattle.words.specs.Said.{no}
+use Rattle.words.specs.Answer.{number_of, said}
 use Rattle.words.specs.Listed.{packed}
-use Rattle.displacements.specs.Answer.{disp_said}
-use Rattle.retargets.specs.declared.Standing.{Standing}
-use Rattle.retargets.specs.Retarget.{standing_said, again_said}
-use Rattle.retargets.proofs.Answers.{again_7, again_there, again_missing}
+use Rattle.words.specs.declared.Refusal.{Refusal}
+use Rattle.retargets.specs.Retarget.{standing_said}
+use Rattle.retargets.proofs.Answers.{over_base, no_base}
 use Rattle.retargets.proofs.retarget_word.Goals as goal
 
-pub returns-then-format-gt5 : goal.returns-then-format-gt5
-returns-then-format-gt5 c = let a = c.args in sym (ap packed (again_7 a.format a.distance.0 (standing_said a.there) c.if-format-gt5.true))
-
-pub returns-in-Stands : goal.returns-in-Stands
-returns-in-Stands c =
+pub returns-in_err-base : goal.returns-in_err-base
+returns-in_err-base c =
     let a = c.args in
-    let d = a.distance.0 in
-    c.disp_word.ensures
-    ∙ ap (λ (w : ℕ). packed (disp_said a.format w d)) c.clear_disp.ensures
-    ∙ sym (ap packed (again_there a.format d c.in-Stands.w.0 c.if-format-gt5.false))
-    ∙ sym (ap (λ (x : Standing). packed (again_said a.format (standing_said x) d)) c.in-Stands.is)
+    let r = c.in_err-base.field-0.0 in
+    let e = err_from_is_err_and c.from_residual.result c.from_residual.ensures.1 in
+    ap said e.1 ∙ ap (λ (q : Refusal). no (number_of q)) e.2 ∙ ap packed (no_base a.format a.distance.0 (standing_said a.there) (number_of r) c.in_err-base.ensures)
 
-pub returns-in-Missing : goal.returns-in-Missing
-returns-in-Missing c =
+pub returns : goal.returns
+returns c =
     let a = c.args in
-    let d = a.distance.0 in
-    sym (ap packed (again_missing a.format d _ c.if-format-gt5.false))
-    ∙ sym (ap (λ (x : Standing). packed (again_said a.format (standing_said x) d)) c.in-Missing.is)
+    c.disp_word.ensures ∙ ap packed (over_base a.format a.distance.0 (standing_said a.there) c.in_ok-base.field-0.0 c.in_ok-base.ensures)

@@ -1,10 +1,12 @@
 -- The four stores of `writers::store_all`. Assumes nothing.
-use Rattle.std.proofs.Common.{◌<◌, arith}
-use Rattle.writers.proofs.Stores.{word_stores}
+use Rattle.std.proofs.Common.{◌≡◌, ◌+◌, arith}
+use Rattle.writers.proofs.Stores.{stores}
 use Rattle.writers.proofs.store_all.Goals as goal
 
 pub returns : goal.returns
-returns c =
-    let a = c.args in
-    let some : 0 < a.f.count = omega arith in
-    rw (c.store-4.ensures, c.store-3.ensures, c.store-2.ensures, c.store.ensures, c.requires.0) (word_stores a.f.count a.i a.f.a a.f.b a.f.c a.f.d a.words.now some)
+returns g c =
+    let i = c.args.i in
+    let f = c.args.f in
+    let same : i + 0 ≡ i = omega arith in
+    rw (c.store-4.ensures, c.store-3.ensures, c.store-2.ensures, c.store.ensures, c.min.ensures, c.min-2.ensures, c.min-3.ensures, c.requires.count)
+    (rw same at (stores g.T.Unit.size g.T.Unit.spell g.met.T.Unit.spelled i f.count f.a f.b f.c f.d c.args.run.now (omega arith)))

@@ -1,6 +1,0 @@
--- What `host::written` requires of the writer's answer in `host::put`. Assumes nothing.
-use Rattle.host.proofs.Laws.{near}
-use Rattle.host.proofs.put.Goals as goal
-
-pub written-requires : goal.written-requires
-written-requires c = near c.args.bytes.now c.place-at.result c.args.m c.put_bytes.result _ c.put_bytes.ensures

@@ -1,9 +1,0 @@
--- From the last number on.
-use Rattle.std.proofs.Common.{◌≤◌, length}
-use Rattle.label_scripts.proofs.word_sum.Given as goal
-
-abbrev pub invariant-loop-i : goal.invariant-loop-i
-invariant-loop-i l = l.i ≤ length l.run
-
-abbrev pub decreases-loop-i : goal.decreases-loop-i
-decreases-loop-i l = l.i
