@@ -110,7 +110,7 @@ some_told : (ts : List Told) → 0 < length (texts_of ts) → 0 < length ts
 some_told [] h = h
 some_told (t ∷ ts) h = omega arith
 
-progress : {ws o o' : List ℕ} {at₀ i at p : ℕ} {k₀ k : Carried} → Upto ws at₀ k₀ o false i at k p o' → length o < p + 320 → 320 ≤ length o
+pub progress : {ws o o' : List ℕ} {at₀ i at p : ℕ} {k₀ k : Carried} → Upto ws at₀ k₀ o false i at k p o' → length o < p + 320 → 320 ≤ length o
     → 2 * (length ws - i) + held k < 2 * length ws + held k₀
 progress u f room =
     let some = some_told u.told (omega (arith, u.text, f)) in

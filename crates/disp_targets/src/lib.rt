@@ -51,7 +51,7 @@ fn distance_to(format: u32, target: Address, address: Address) -> ByteDistance
     ensures { result.0 ≡ between (page_of format target.0) (page_of format address.0) }
 {
     let apart = page(format, target.0).wrapping_sub(page(format, address.0));
-    ByteDistance(apart.cast_signed())
+    ByteDistance(words::signed_of(apart))
 }
 
 // The low bits that a format's answer carries.

@@ -85,7 +85,7 @@ impl Form {
     fn place(self, base: Opc, distance: ByteDistance) -> Result<Words, Refusal>
         ensures { said result ≡ packed (place_said (shape self) base.0 distance.0) }
     {
-        let x = distance.0.cast_unsigned();
+        let x = words::bits_of(distance.0);
         let width = self.bits + self.scale;
         if self.field_of(base) != 0 {
             return Err(Refusal::Taken);
@@ -151,5 +151,5 @@ pub fn read_disp(word: Opc, format: u32) -> Result<ByteDistance, Refusal>
     ensures { distance_said result ≡ read_said word.0 format }
 {
     let offset = Form::of(Format::try_from(format)?).offset_of(word);
-    Ok(ByteDistance(offset.cast_signed()))
+    Ok(ByteDistance(words::signed_of(offset)))
 }

@@ -42,12 +42,16 @@ at_index v (suc (suc (suc zero))) e h = rw e
 at_index v (suc (suc (suc (suc k)))) e h = absurd (omega arith)
 
 -- told by a test
-pub told : (f v k : ℕ) {l : List ℕ} {r : ℕ} → Halved v l → k < 4 → r ≡ bool_byte (eqb (get_or l k 0) f) → (r ≡ same f (half v k)) × (r ≤ 1)
-told f v k {l} {r} e h t = rw (← at_index v k e h) (go (eqb (get_or l k 0) f) t)
+pub tested : (f h : ℕ) {r : ℕ} → r ≡ bool_byte (eqb h f) → (r ≡ same f h) × (r ≤ 1)
+tested f h {r} t = go (eqb h f) t
   where
     go : (b : Bool) → r ≡ bool_byte b → (r ≡ cond b 1 0) × (r ≤ 1)
     go true t = (t, omega arith)
     go false t = (t, omega arith)
+
+-- the same of the halfword that the pass is at
+pub told : (f v k : ℕ) {l : List ℕ} {r : ℕ} → Halved v l → k < 4 → r ≡ bool_byte (eqb (get_or l k 0) f) → (r ≡ same f (half v k)) × (r ≤ 1)
+told f v k {l} {r} e h t = rw (← at_index v k e h) (tested f (get_or l k 0) t)
 
 -- FFFF alone carries with 1 more
 pub carries : (h : ℕ) → h < 2 ^ 16 → (h + 1) / 2 ^ 16 ≡ same 0xFFFF h

@@ -146,3 +146,7 @@ module _ (w : ℕ) where
       go false false false false true f = refl
       go false false false false false true = refl
       go false false false false false false = refl
+
+  -- a word of that group is no displacement
+  pub none_in : bits 28 24 w ≡ 0b10010 → None ≡ displacement_in w
+  none_in g = sym (rw (apart g 0 (omega arith), apart g 1 (omega arith), apart g 2 (omega arith), apart g 3 (omega arith), apart g 4 (omega arith), apart g 5 (omega arith)))

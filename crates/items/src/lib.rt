@@ -67,6 +67,10 @@ fn form_in(w: Opc) -> Option<Format>
 fn displaced(w: Opc) -> Option<Displacement>
     ensures { result ≡ displacement_in w.0 }
 {
+    // Wide moves and logical immediates, of which bits 28 to 24 are 10010, have no format's form: they are not asked six times.
+    if w.0 / 16777216 % 32 == 18 {
+        return None;
+    }
     let format = form_in(w)? as u32;
     let distance = displacements::read_disp(w, format).ok()?;
     Some(Displacement {

@@ -25,7 +25,10 @@ impl Sheet for Runs<'_> {
     // The shortest run is the room.
     #[tactic(auto, using(crate::proofs::Flat::uses_length))]
     fn room(&self) -> usize {
-        self.marks.len().min(self.ats.len()).min(self.formats.len())
+        words::least(
+            words::least(self.marks.len(), self.ats.len()),
+            self.formats.len(),
+        )
     }
 
     #[tactic(auto, using(crate::proofs::Flat::uses_length))]

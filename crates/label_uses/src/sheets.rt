@@ -33,7 +33,7 @@ fn use_at<S: Sheet>(sheet: &S, i: usize) -> Use
 pub fn named<S: Sheet>(sheet: &S, n: usize, k: usize) -> bool
     ensures { result ≡ names k (take n (S.uses sheet.now)) }
 {
-    for i in 0..n.min(sheet.room()) {
+    for i in 0..words::least(n, sheet.room()) {
         if use_at(sheet, i).at == k {
             return true;
         }

@@ -4,15 +4,17 @@ use mathlib.Core.List.{List, [], ◌∷◌, ◌++◌, append-nil, append_assoc}
 use Prim.Native.Nat.{ℕ, zero, suc, ◌+◌, ◌≤◌, ◌<◌}
 use native.Mathlib.Omega.{arith}
 use lib.ListN.{length, take, drop, get_or, length-append}
-use lib.Seq.{sets}
 use borrow.Rule.Slice.PartMut.{put_mid}
 use Rattle.std.proofs.lemmas.Slice.{put_mid-paste}
 use Rattle.std.proofs.lemmas.List.Edits.{paste_all, sets-eq}
 use Rattle.std.proofs.Common.{add-one}
+use borrow.Author.Tests.{lt-ltb}
+use lib.Dec.{ltb}
+use lib.Seq.{sets, take-nil}
 use Rattle.words.proofs.Runs.{sets_append}
 use Rattle.lines.specs.Item.{Item}
 use Rattle.lines.specs.Text.{spaced, texts_of, line_at}
-use Rattle.lines.specs.Steps.{Put, Wrote}
+use Rattle.lines.specs.Steps.{Put, Wrote, part}
 use Rattle.lines.specs.declared.Cursor.{Cursor}
 use Rattle.lines.proofs.Lines.{line_fits}
 
@@ -67,3 +69,15 @@ spaced_more f (n ∷ ns) (suc k) h = rw append_assoc (ap (λ (t : List ℕ). 32 
 pub more : (f : ℕ → List ℕ) (ns : List ℕ) (k : ℕ) → k < length ns
     → spaced f (take k ns) ++ (32 ∷ f (get_or ns k 0)) ≡ spaced f (take (k + 1) ns)
 more f ns k h = rw add-one (spaced_more f ns k h)
+
+-- up to four numbers of a list, one behind the other
+pub parts : (f : ℕ → List ℕ) (n a b c d : ℕ)
+    → part f (ltb 0 n) a ++ (part f (ltb 1 n) b ++ (part f (ltb 2 n) c ++ part f (ltb 3 n) d)) ≡ spaced f (take n (a ∷ b ∷ c ∷ d ∷ []))
+parts f zero a b c d = refl
+parts f (suc zero) a b c d = refl
+parts f (suc (suc zero)) a b c d = refl
+parts f (suc (suc (suc zero))) a b c d = refl
+parts f (suc (suc (suc (suc n)))) a b c d =
+    let all = suc (suc (suc (suc n))) in
+    simp (take-nil {A = ℕ} n, lt-ltb 0 all (omega arith), lt-ltb 1 all (omega arith), lt-ltb 2 all (omega arith), lt-ltb 3 all (omega arith))
+    (rw (append-nil (f d)))

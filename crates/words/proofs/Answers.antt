@@ -97,16 +97,17 @@ pub not_both : {A : Type 0} {a : A} {n : ℕ} → ◌≡◌ {A = Said A} (ok a) 
 not_both e = let z : ◌≡◌ {A = ℕ} 0 1 = cc in omega arith
 
 -- an answer by what it says
-abbrev answered : {A : Type 0} → Said A → Result A Refusal
-answered (ok a) = Ok a
-answered (no n) = Err (refusal_of n)
+module _ {A X : Type 0} (value : A → X) (refusal : Refusal → X) where
+  abbrev pub answered : Said A → X
+  answered (ok a) = value a
+  answered (no n) = refusal (refusal_of n)
 
-said_back : {A : Type 0} (r : Result A Refusal) → answered (said r) ≡ r
+said_back : {A : Type 0} (r : Result A Refusal) → answered Ok Err (said r) ≡ r
 said_back (Ok a) = refl
 said_back (Err r) = ap Err (refusal_back r)
 
 pub said_all : {A : Type 0} (r s : Result A Refusal) → said r ≡ said s → r ≡ s
-said_all = all_said said answered said_back
+said_all = all_said said (answered Ok Err) said_back
 
 -- the same where a value is read in another form, from which it is had again
 module _ {A B : Type 0} (f : A → B) (g : B → A) (back : (a : A) → g (f a) ≡ a) where

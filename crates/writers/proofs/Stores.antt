@@ -61,7 +61,7 @@ module _ {A : Type 0} (u : ℕ) (spell : ℕ → List A) (units : (w : ℕ) → 
       rw e (front (spell w) (flat_map spell ws) l ((i + k) * u))
 
   -- four stores, each at its place or at the last place where that is nearer
-  abbrev four : List A → ℕ → ℕ → ℕ → ℕ → ℕ → List A
+  abbrev pub four : List A → ℕ → ℕ → ℕ → ℕ → ℕ → List A
   four l last a b c d = stored (stored (stored (stored l (min last 3) d) (min last 2) c) (min last 1) b) 0 a
 
   pub stores : (n a b c d : ℕ) (l : List A) → 0 < n → four l (min n 4 - 1) a b c d ≡ all l 0 (take n (a ∷ b ∷ c ∷ d ∷ []))

@@ -89,9 +89,9 @@ fn store_all<T: Unit>(run: &mut [T], i: usize, n: usize, f: Words)
         return;
     }
     let last = n - 1;
-    T::store(run, i + last.min(3), f.d);
-    T::store(run, i + last.min(2), f.c);
-    T::store(run, i + last.min(1), f.b);
+    T::store(run, i + words::least(last, 3), f.d);
+    T::store(run, i + words::least(last, 2), f.c);
+    T::store(run, i + words::least(last, 1), f.b);
     T::store(run, i, f.a);
 }
 
@@ -101,7 +101,7 @@ fn put_all<T: Unit>(run: &mut [T], at: Place, m: Result<Words, Refusal>) -> Resu
 {
     let f = based(at, m)?;
     let i = at.position.0;
-    let n = f.count.min(4);
+    let n = words::least(f.count, 4);
     let room = run.len() / T::size();
     if room < i || room - i < n {
         return Err(Refusal::NoRoom);

@@ -13,4 +13,4 @@ returns c =
     let known : a.format < 6 = rw (← c.in_ok-try_from.ensures) (number_below c.in_ok-try_from.field-0) in
     let form = c.of.ensures ∙ ap form_of c.in_ok-try_from.ensures in
     let read = c.offset_of-offset.ensures ∙ ap (λ (f : Form). offset_in f a.word.0) form ∙ arm_reads a.word.0 a.format known in
-    simp (le-ltb 5 a.format (omega (arith, known))) (ap (λ (z : ℤ). ok z) (to_z-of_z {w = w64} (record { sfits = c.cast_signed.type_inv }) ∙ c.cast_signed.ensures ∙ ap (to_z w64) read))
+    simp (le-ltb 5 a.format (omega (arith, known))) (ap (λ (z : ℤ). ok z) (to_z-of_z {w = w64} (record { sfits = c.signed_of.type_inv }) ∙ c.signed_of.ensures ∙ ap (to_z w64) read))

@@ -8,5 +8,5 @@ returns g c =
     let i = c.args.i in
     let f = c.args.f in
     let same : i + 0 ≡ i = omega arith in
-    rw (c.store-4.ensures, c.store-3.ensures, c.store-2.ensures, c.store.ensures, c.min.ensures, c.min-2.ensures, c.min-3.ensures, c.requires.count)
+    rw (c.store-4.ensures, c.store-3.ensures, c.store-2.ensures, c.store.ensures, c.least.ensures, c.least-2.ensures, c.least-3.ensures, c.requires.count)
     (rw same at (stores g.T.Unit.size g.T.Unit.spell g.met.T.Unit.spelled i f.count f.a f.b f.c f.d c.args.run.now (omega arith)))

@@ -45,7 +45,7 @@ pub returns-then-low_bits-ne0 : goal.returns-then-low_bits-ne0
 returns-then-low_bits-ne0 c =
     let a = c.args in
     let free = sym c.field_of.ensures ∙ c.if-field_of-ne0.false in
-    sym (ap packed (place_off (shape a.self) a.base.0 a.distance.0 free (off (shape a.self) c.args.self.sound a.distance.0 (search rules) c.cast_unsigned-x.result c.cast_unsigned-x.ensures c.low_bits.result c.low_bits.ensures c.if-low_bits-ne0.true)))
+    sym (ap packed (place_off (shape a.self) a.base.0 a.distance.0 free (off (shape a.self) c.args.self.sound a.distance.0 (search rules) c.bits_of-x.result c.bits_of-x.ensures c.low_bits.result c.low_bits.ensures c.if-low_bits-ne0.true)))
 
 pub returns-then-x-width-ne0 : goal.returns-then-x-width-ne0
 returns-then-x-width-ne0 c =
@@ -53,9 +53,9 @@ returns-then-x-width-ne0 c =
     let d = c.args.distance.0 in
     let fits : SFits w64 d = search rules in
     let free = sym c.field_of.ensures ∙ c.if-field_of-ne0.false in
-    let o = on f c.args.self.sound d fits c.cast_unsigned-x.result c.cast_unsigned-x.ensures c.low_bits.result c.low_bits.ensures c.if-low_bits-ne0.false in
-    let y = moved f c.cast_unsigned-x.result in
-    let s = sum f c.args.self.sound d fits c.cast_unsigned-x.result c.cast_unsigned-x.ensures in
+    let o = on f c.args.self.sound d fits c.bits_of-x.result c.bits_of-x.ensures c.low_bits.result c.low_bits.ensures c.if-low_bits-ne0.false in
+    let y = moved f c.bits_of-x.result in
+    let s = sum f c.args.self.sound d fits c.bits_of-x.result c.bits_of-x.ensures in
     let out = out_of_reach (f.bits + f.scale) (omega (arith, c.args.self.sound.some)) c.args.self.sound.narrow d fits y s c.if-x-width-ne0.true in
     sym (ap packed (place_far f c.args.base.0 d free o (range_far f d out)))
 
@@ -66,9 +66,9 @@ returns c =
     let d = c.args.distance.0 in
     let fits : SFits w64 d = search rules in
     let free = sym c.field_of.ensures ∙ c.if-field_of-ne0.false in
-    let o = on f c.args.self.sound d fits c.cast_unsigned-x.result c.cast_unsigned-x.ensures c.low_bits.result c.low_bits.ensures c.if-low_bits-ne0.false in
-    let y = moved f c.cast_unsigned-x.result in
-    let s = sum f c.args.self.sound d fits c.cast_unsigned-x.result c.cast_unsigned-x.ensures in
+    let o = on f c.args.self.sound d fits c.bits_of-x.result c.bits_of-x.ensures c.low_bits.result c.low_bits.ensures c.if-low_bits-ne0.false in
+    let y = moved f c.bits_of-x.result in
+    let s = sum f c.args.self.sound d fits c.bits_of-x.result c.bits_of-x.ensures in
     let near = in_reach (f.bits + f.scale) (omega (arith, c.args.self.sound.some)) c.args.self.sound.narrow d fits y s c.if-x-width-ne0.false in
-    let word = c.put_field-w.ensures ∙ ap (put_in f b) (steps f c.args.self.sound d fits c.cast_unsigned-x.result c.cast_unsigned-x.ensures c.low_bits-2.result c.low_bits-2.ensures) in
+    let word = c.put_field-w.ensures ∙ ap (put_in f b) (steps f c.args.self.sound d fits c.bits_of-x.result c.bits_of-x.ensures c.low_bits-2.result c.low_bits-2.ensures) in
     ap ok c.one.ensures ∙ ap (λ (w : ℕ). packed (ok (w ∷ []))) word ∙ sym (ap packed (place_word f b d free o (range_near f c.args.self.sound d o near)))

@@ -6,4 +6,4 @@ use Rattle.label_uses.proofs.sheets.named.Given as goal
 abbrev pub invariant-loop-i : goal.invariant-loop-i
 invariant-loop-i g l =
     let us = g.S.Sheet.uses l.sheet in
-    (l.i-end ≡ min l.n (length us)) × (names l.k (drop l.i (take l.i-end us)) ≡ names l.k (take l.i-end us))
+    (l.i-end ≡ min l.n (length us)) × (names l.k (drop l.i (take l.i-end us)) ≡ names l.k (take l.n us))

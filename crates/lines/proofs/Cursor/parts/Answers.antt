@@ -1,11 +1,8 @@
--- One more number of the list in a turn. Assumes nothing.
-use Rattle.std.proofs.Common.{ℕ, List, ◌+◌, ◌*◌, subst, arith}
-use Rattle.lines.specs.Steps.{Wrote, spell}
-use Rattle.lines.proofs.Puts.{then, wide, more}
+-- Up to four numbers, one behind the other. Assumes nothing.
+use Rattle.lines.proofs.Puts.{then, parts}
 use Rattle.lines.proofs.Cursor.parts.Goals as goal
 
-pub loop-n-preserved : goal.loop-n-preserved
-loop-n-preserved c =
-    let k = c.loop-n.n-index in
-    subst (λ (t : List ℕ). Wrote (21 * (k + 1)) c.args.self.now t c.part.new.self) (more (spell c.args.spelling) _ k c.loop-n-test.true)
-    (wide (21 * k + 21) (21 * (k + 1)) (omega arith) (then (21 * k) 21 c.loop-n.invariant c.part.ensures))
+pub returns : goal.returns
+returns c =
+    let f = c.args.f in
+    rw (← parts _ f.count f.a f.b f.c f.d) (then 21 63 c.part.ensures (then 21 42 c.part-2.ensures (then 21 21 c.part-3.ensures c.part-4.ensures)))

@@ -1,4 +1,0 @@
-use Rattle.lines.proofs.Cursor.+decimal.Given as goal
-
-abbrev pub decreases-decimal : goal.decreases-decimal
-decreases-decimal l = l.n
